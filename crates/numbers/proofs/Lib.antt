@@ -1,0 +1,10 @@
+-- The laws that the crates above may cite, and behind them what only this crate's proofs use.
+pub mod ValueLaws
+pub mod CloseLaws
+pub mod TestLaws
+pub mod BitLaws
+pub mod RootLaws
+pub mod RootNearest
+pub mod ShownLaws
+mod Squares
+mod Rounded

@@ -1,0 +1,43 @@
+// The mean as it is shown. The rule that makes a fraction a whole number is `ruled` of specs/Shown.antt and `ruled_shift` here.
+ghost use mathlib.Core.Path.{_≡_};
+ghost use Prim.Native.Nat.{_*_, _^_, _<_, _≤_, min};
+ghost use Rattle.numbers.specs.Shown.{ruled, mostShown, shownOf};
+use crate::bits::parts_of;
+use crate::tests::is_finite;
+
+// The exact 1000 * mean, cut toward zero and held within ±999,999,999; 0 for a NaN and an infinity.
+pub fn shown(mean: f64) -> i64
+    ensures { λ r. ⌜ r ≡ shownOf mean ⌝ }
+{
+    if is_finite(mean) {
+        let p = parts_of(mean);
+        let n = thousandths(p.digits, p.power) as i64;
+        if p.minus {
+            return -n;
+        }
+        return n;
+    }
+    0
+}
+
+// 1000 times digits * 2 ^ power smallest values, by the rule, and held at 999,999,999.
+fn thousandths(digits: u64, power: u64) -> u64
+    requires { ⌜ (digits < 2 ^ 53) × (0 < power → 2 ^ 52 ≤ digits) ⌝ }
+    ensures { λ r. ⌜ r ≡ min (ruled (1000 * (digits * 2 ^ power)) (2 ^ 1074)) mostShown ⌝ }
+{
+    if power < 1074 {
+        let n = ruled_shift(1000 * digits, 1074 - power);
+        if n < 999_999_999 {
+            return n;
+        }
+    }
+    999_999_999
+}
+
+// n / 2 ^ by as a whole number, by the rule.
+fn ruled_shift(n: u64, by: u64) -> u64
+    requires { ⌜ n < 2 ^ 63 ⌝ }
+    ensures { λ r. ⌜ r ≡ ruled n (2 ^ by) ⌝ }
+{
+    if by < 64 { n >> by } else { 0 }
+}

@@ -1,0 +1,133 @@
+-- The laws of a key's bits, over any number of words: a flip changes its own bit and no other, twice it is the identity, it keeps the
+-- length, and words of 64 bits stay so. Two keys with the same bits are equal. Assumes nothing.
+use Prim.Native.Nat.{ℕ, _+_, _*_, _/_, _%_, _^_, _≤_, _<_}
+use mathlib.Core.Path.{_≡_, refl, sym, ap, ap₂, _∙_, subst, subst⁻¹}
+use mathlib.Core.Bool.{Bool, true, false, not, cond, _&&_, false≢true}
+use mathlib.Core.Logic.{_≢_}
+use mathlib.Core.List.{[], _∷_}
+use lib.Dec.{eqb}
+use borrow.Author.Tests.{eqb-true, eq-eqb}
+use native.Mathlib.Omega.{arith}
+use native.Mathlib.Decide.{decLt, ℕ-discrete}
+use lib.ListN.{length, getD, set, length-set}
+use lib.Seq.{getD-set-same, getD-set-other, set-out, set-set, set-getD, ext-getD}
+use Rattle.words.specs.Keys.{Key, bitOf, flipOf, bitAt, flipAt, setAt, sameKey, Words}
+use Rattle.words.proofs.WordLaws.{bit-flip-same, bit-flip-other, flip-twice, flip-lt, word-ext}
+
+module _ (k : Key) (i : ℕ) where
+  pub flipAt-length : length (flipAt k i) ≡ length k
+  unfolding flipAt
+  flipAt-length = length-set k (i / 64) _
+
+  pub flipAt-out : length k ≤ i / 64 → flipAt k i ≡ k
+  unfolding flipAt
+  flipAt-out h = set-out k (i / 64) _ h
+
+  pub flipAt-word : i / 64 < length k → getD (flipAt k i) (i / 64) 0 ≡ flipOf (getD k (i / 64) 0) (i % 64)
+  unfolding flipAt
+  flipAt-word h = getD-set-same k (i / 64) _ 0 h
+
+  pub bitAt-flip-same : i / 64 < length k → bitAt (flipAt k i) i ≡ not (bitAt k i)
+  unfolding bitAt
+  bitAt-flip-same h = ap (λ (x : ℕ). bitOf x (i % 64)) (flipAt-word h) ∙ bit-flip-same (getD k (i / 64) 0) (i % 64)
+
+  pub flipAt-twice : flipAt (flipAt k i) i ≡ k
+  unfolding flipAt
+  flipAt-twice = go (decLt (i / 64) (length k))
+    where
+      go : Dec (i / 64 < length k) → flipAt (flipAt k i) i ≡ k
+      go (yes h) =
+          ap (λ (x : ℕ). set (flipAt k i) (i / 64) (flipOf x (i % 64))) (flipAt-word h)
+          ∙ set-set k (i / 64) _ _
+          ∙ ap (λ (x : ℕ). set k (i / 64) x) (flip-twice (getD k (i / 64) 0) (i % 64))
+          ∙ set-getD k (i / 64) 0
+      go (no h) = ap (λ (l : Key). flipAt l i) (flipAt-out (omega arith)) ∙ flipAt-out (omega arith)
+
+  -- every word other than the flipped bit's is as it was
+  pub flipAt-other-word : (j : ℕ) → j ≢ i / 64 → getD (flipAt k i) j 0 ≡ getD k j 0
+  unfolding flipAt
+  flipAt-other-word j h = getD-set-other k (i / 64) j _ 0 h
+
+  pub bitAt-flip-other : (j : ℕ) → j ≢ i → bitAt (flipAt k i) j ≡ bitAt k j
+  unfolding bitAt
+  bitAt-flip-other j h = go (ℕ-discrete (j / 64) (i / 64)) (decLt (i / 64) (length k))
+    where
+      go : Dec (j / 64 ≡ i / 64) → Dec (i / 64 < length k) → bitAt (flipAt k i) j ≡ bitAt k j
+      go (no n) d = ap (λ (x : ℕ). bitOf x (j % 64)) (flipAt-other-word (j / 64) n)
+      go (yes e) (yes l) =
+          ap (λ (x : ℕ). bitOf (getD (flipAt k i) x 0) (j % 64)) e
+          ∙ ap (λ (x : ℕ). bitOf x (j % 64)) (flipAt-word l)
+          ∙ bit-flip-other (getD k (i / 64) 0) (i % 64) (j % 64) (λ m. h (omega arith))
+          ∙ ap (λ (x : ℕ). bitOf (getD k x 0) (j % 64)) (sym e)
+      go (yes e) (no l) = ap (λ (x : Key). bitAt x j) (flipAt-out (omega arith))
+
+  pub flipAt-words : Words k → Words (flipAt k i)
+  flipAt-words ok j = go (ℕ-discrete j (i / 64)) (decLt (i / 64) (length k))
+    where
+      go : Dec (j ≡ i / 64) → Dec (i / 64 < length k) → getD (flipAt k i) j 0 < 2 ^ 64
+      go (no n) d = subst⁻¹ (λ (x : ℕ). x < 2 ^ 64) (flipAt-other-word j n) (ok j)
+      go (yes e) (yes l) =
+          subst⁻¹ (λ (x : ℕ). getD (flipAt k i) x 0 < 2 ^ 64) e
+          (subst⁻¹ (λ (x : ℕ). x < 2 ^ 64) (flipAt-word l) (flip-lt (getD k (i / 64) 0) (i % 64) 64 (omega arith) (ok (i / 64))))
+      go (yes e) (no l) = subst⁻¹ (λ (x : Key). getD x j 0 < 2 ^ 64) (flipAt-out (omega arith)) (ok j)
+
+pub key-ext : (k l : Key) → length k ≡ length l → Words k → Words l → ((i : ℕ) → bitAt k i ≡ bitAt l i) → k ≡ l
+unfolding bitAt
+key-ext k l e hk hl same =
+    ext-getD 0 k l e
+    (λ j h. word-ext 64 (getD k j 0) (getD l j 0) (hk j) (hl j)
+    (λ b m.
+    let q : (64 * j + b) / 64 ≡ j = omega arith in
+    let r : (64 * j + b) % 64 ≡ b = omega arith in
+    rw (q, r) at (same (64 * j + b))))
+
+-- ---- two keys are the same where their words are
+
+pub sameKey-eq : (k l : Key) → sameKey k l ≡ true → k ≡ l
+unfolding sameKey
+sameKey-eq [] [] h = refl
+sameKey-eq [] (b ∷ l) h = absurd (false≢true h)
+sameKey-eq (a ∷ k) [] h = absurd (false≢true h)
+sameKey-eq (a ∷ k) (b ∷ l) h = go (eqb a b) refl h (sameKey-eq k l)
+  where
+    go : (t : Bool) → eqb a b ≡ t → (t && sameKey k l) ≡ true → (sameKey k l ≡ true → k ≡ l) → a ∷ k ≡ b ∷ l
+    go true e h f = ap₂ (λ (x : ℕ) (m : Key). x ∷ m) (eqb-true a b e) (f h)
+    go false e h f = absurd (false≢true h)
+
+pub sameKey-refl : (k : Key) → sameKey k k ≡ true
+unfolding sameKey
+sameKey-refl [] = refl
+sameKey-refl (a ∷ k) = ap (λ (t : Bool). t && sameKey k k) (eq-eqb a a refl) ∙ sameKey-refl k
+
+pub sameKey-ne : (k l : Key) → k ≢ l → sameKey k l ≡ false
+sameKey-ne k l n = go (sameKey k l) refl
+  where
+    go : (t : Bool) → sameKey k l ≡ t → t ≡ false
+    go true e = absurd (n (sameKey-eq k l e))
+    go false e = refl
+
+-- a word in which they differ
+pub sameKey-differ : (k l : Key) (j : ℕ) → (getD k j 0 ≡ getD l j 0 → ⊥) → sameKey k l ≡ false
+sameKey-differ k l j n = sameKey-ne k l (λ e. n (ap (λ (m : Key). getD m j 0) e))
+
+-- ---- a set bit stays, and a clear one is flipped
+module _ (k : Key) (i : ℕ) where
+  pub setAt-set : bitAt k i ≡ true → k ≡ setAt k i
+  setAt-set e = ap (λ (t : Bool). cond t k (flipAt k i)) (sym e)
+
+  pub setAt-clear : bitAt k i ≡ false → flipAt k i ≡ setAt k i
+  setAt-clear e = ap (λ (t : Bool). cond t k (flipAt k i)) (sym e)
+
+  pub setAt-length : length (setAt k i) ≡ length k
+  setAt-length = go (bitAt k i)
+    where
+      go : (t : Bool) → length (cond t k (flipAt k i)) ≡ length k
+      go true = refl
+      go false = flipAt-length k i
+
+  pub setAt-words : Words k → Words (setAt k i)
+  setAt-words ok = go (bitAt k i)
+    where
+      go : (t : Bool) → Words (cond t k (flipAt k i))
+      go true = ok
+      go false = flipAt-words k i ok

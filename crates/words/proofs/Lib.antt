@@ -1,0 +1,11 @@
+pub mod WordLaws
+pub mod KeyLaws
+pub mod LetterLaws
+pub mod EveryGate
+pub mod Published
+pub mod GateLaws
+pub mod InverseLaws
+pub mod ProductLaws
+pub mod RowSteps
+pub mod RowLaws
+mod Place

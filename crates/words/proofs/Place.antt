@@ -1,0 +1,41 @@
+-- A bit counted from a word of a buffer: what the code of `get_bit` and `flip_bit` computes. Assumes nothing.
+use Prim.Native.Nat.{ℕ, _+_, _*_, _/_, _%_, _^_, _≤_}
+use mathlib.Core.Path.{_≡_, sym, ap, ap₂, _∙_, subst⁻¹}
+use mathlib.Core.Bool.{false}
+use mathlib.Core.List.{List}
+use native.Mathlib.Omega.{arith}
+use lib.ListN.{length, getD, set, List·getD-eq-default}
+use lib.Dec.{eqb}
+use lib.Bits.{bitXor}
+use lib.Pow.{shl-exact}
+use native.Mathlib.Nat.{one-mul, zero-div}
+use Rattle.words.specs.Keys.{bitOf, flipOf, bitAt, flipAt}
+use Rattle.words.proofs.WordLaws.{xor-flip}
+use Rattle.words.proofs.KeyLaws.{flipAt-out}
+
+module _ (k : List ℕ) (base i : ℕ) where
+  word : (64 * base + i) / 64 ≡ base + i / 64
+  word = omega arith
+
+  bit : (64 * base + i) % 64 ≡ i % 64
+  bit = omega arith
+
+  pub bit-place : bitAt k (64 * base + i) ≡ eqb (getD k (base + i / 64) 0 / 2 ^ (i % 64) % 2) 1
+  unfolding bitAt bitOf
+  bit-place = ap₂ (λ (x y : ℕ). eqb (getD k x 0 / 2 ^ y % 2) 1) word bit
+
+  pub bit-past : length k ≤ base + i / 64 → bitAt k (64 * base + i) ≡ false
+  bit-past h =
+      bit-place
+      ∙ ap (λ (x : ℕ). eqb (x / 2 ^ (i % 64) % 2) 1) (List·getD-eq-default k 0 h)
+      ∙ ap (λ (x : ℕ). eqb (x % 2) 1) (zero-div (2 ^ (i % 64)))
+
+  pub flip-place : flipAt k (64 * base + i) ≡ set k (base + i / 64) (bitXor (getD k (base + i / 64) 0) (1 * 2 ^ (i % 64) % 2 ^ 64))
+  unfolding flipAt
+  flip-place =
+      ap₂ (λ (x y : ℕ). set k x (flipOf (getD k x 0) y)) word bit
+      ∙ ap (λ (x : ℕ). set k (base + i / 64) x) (sym (xor-flip (getD k (base + i / 64) 0) (i % 64)))
+      ∙ ap (λ (x : ℕ). set k (base + i / 64) (bitXor (getD k (base + i / 64) 0) x)) (sym (shl-exact 1 (i % 64) 64 (omega arith) (omega arith) ∙ one-mul (2 ^ (i % 64))))
+
+  pub flip-past : length k ≤ base + i / 64 → flipAt k (64 * base + i) ≡ k
+  flip-past h = flipAt-out k (64 * base + i) (subst⁻¹ (λ (x : ℕ). length k ≤ x) word h)

@@ -1,0 +1,5 @@
+pub mod Keys
+pub mod Gates
+pub mod Rows
+pub mod Tableau
+pub mod Cases
