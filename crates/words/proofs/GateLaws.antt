@@ -24,7 +24,7 @@ xor-false : (x : Bool) → x ≡ x ⊕ false
 xor-false true = refl
 xor-false false = refl
 
-xor-back : (x y : Bool) → x ⊕ (x ⊕ y) ≡ y
+pub xor-back : (x y : Bool) → x ⊕ (x ⊕ y) ≡ y
 xor-back true true = refl
 xor-back true false = refl
 xor-back false true = refl

@@ -7,9 +7,10 @@ use mathlib.Core.Logic.{_≢_}
 use mathlib.Core.List.{[], _∷_}
 use lib.Dec.{eqb}
 use borrow.Author.Tests.{eqb-true, eq-eqb}
+use native.Mathlib.Nat.{zero-div}
 use native.Mathlib.Omega.{arith}
 use native.Mathlib.Decide.{decLt, ℕ-discrete}
-use lib.ListN.{length, getD, set, length-set}
+use lib.ListN.{length, getD, set, length-set, List·getD-eq-default}
 use lib.Seq.{getD-set-same, getD-set-other, set-out, set-set, set-getD, ext-getD}
 use Rattle.words.specs.Keys.{Key, bitOf, flipOf, bitAt, flipAt, setAt, sameKey, Words}
 use Rattle.words.proofs.WordLaws.{bit-flip-same, bit-flip-other, flip-twice, flip-lt, word-ext}
@@ -81,6 +82,19 @@ key-ext k l e hk hl same =
     let r : (64 * j + b) % 64 ≡ b = omega arith in
     rw (q, r) at (same (64 * j + b))))
 
+-- past the end a bit is clear; a set bit, flipped, is clear
+pub bitAt-past : (k : Key) (i : ℕ) → length k ≤ i / 64 → bitAt k i ≡ false
+unfolding bitAt bitOf
+bitAt-past k i h =
+    ap (λ (x : ℕ). eqb (x / 2 ^ (i % 64) % 2) 1) (List·getD-eq-default k 0 h) ∙ ap (λ (x : ℕ). eqb (x % 2) 1) (zero-div (2 ^ (i % 64)))
+
+pub bitAt-cleared : (k : Key) (i : ℕ) → bitAt k i ≡ true → bitAt (flipAt k i) i ≡ false
+bitAt-cleared k i e = go (decLt (i / 64) (length k))
+  where
+    go : Dec (i / 64 < length k) → bitAt (flipAt k i) i ≡ false
+    go (yes h) = bitAt-flip-same k i h ∙ ap not e
+    go (no h) = absurd (false≢true (sym (bitAt-past k i (omega arith)) ∙ e))
+
 -- ---- two keys are the same where their words are
 
 pub sameKey-eq : (k l : Key) → sameKey k l ≡ true → k ≡ l
@@ -105,6 +119,13 @@ sameKey-ne k l n = go (sameKey k l) refl
     go : (t : Bool) → sameKey k l ≡ t → t ≡ false
     go true e = absurd (n (sameKey-eq k l e))
     go false e = refl
+
+pub sameKey-sym : (k l : Key) → sameKey k l ≡ sameKey l k
+sameKey-sym k l = go (sameKey k l) refl
+  where
+    go : (t : Bool) → sameKey k l ≡ t → t ≡ sameKey l k
+    go true e = sym (ap (λ (m : Key). sameKey l m) (sameKey-eq k l e) ∙ sameKey-refl l)
+    go false e = sym (sameKey-ne l k (λ q. false≢true (sym e ∙ ap (λ (m : Key). sameKey k m) q ∙ sameKey-refl k)))
 
 -- a word in which they differ
 pub sameKey-differ : (k l : Key) (j : ℕ) → (getD k j 0 ≡ getD l j 0 → ⊥) → sameKey k l ≡ false

@@ -11,7 +11,7 @@ use lib.Pow.{shl-exact}
 use native.Mathlib.Nat.{one-mul, zero-div}
 use Rattle.words.specs.Keys.{bitOf, flipOf, bitAt, flipAt}
 use Rattle.words.proofs.WordLaws.{xor-flip}
-use Rattle.words.proofs.KeyLaws.{flipAt-out}
+use Rattle.words.proofs.KeyLaws.{flipAt-out, bitAt-past}
 
 module _ (k : List ℕ) (base i : ℕ) where
   word : (64 * base + i) / 64 ≡ base + i / 64
@@ -25,10 +25,7 @@ module _ (k : List ℕ) (base i : ℕ) where
   bit-place = ap₂ (λ (x y : ℕ). eqb (getD k x 0 / 2 ^ y % 2) 1) word bit
 
   pub bit-past : length k ≤ base + i / 64 → bitAt k (64 * base + i) ≡ false
-  bit-past h =
-      bit-place
-      ∙ ap (λ (x : ℕ). eqb (x / 2 ^ (i % 64) % 2) 1) (List·getD-eq-default k 0 h)
-      ∙ ap (λ (x : ℕ). eqb (x % 2) 1) (zero-div (2 ^ (i % 64)))
+  bit-past h = bitAt-past k (64 * base + i) (subst⁻¹ (λ (x : ℕ). length k ≤ x) word h)
 
   pub flip-place : flipAt k (64 * base + i) ≡ set k (base + i / 64) (bitXor (getD k (base + i / 64) 0) (1 * 2 ^ (i % 64) % 2 ^ 64))
   unfolding flipAt

@@ -1,0 +1,4 @@
+mod ProbeLaws
+mod RotationRows
+pub mod RotatedLaws
+mod ChannelRows

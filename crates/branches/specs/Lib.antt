@@ -1,0 +1,3 @@
+pub mod Rotated
+pub mod Letters
+pub mod Probe

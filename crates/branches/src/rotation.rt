@@ -1,0 +1,178 @@
+// A Pauli rotation on every term: t, tdg, rz, p and rzz.
+ghost use mathlib.Core.Path.{_≡_};
+ghost use mathlib.Core.List.{map};
+ghost use Prim.Native.Nat.{_+_, _*_, _≤_, _<_};
+ghost use lib.ListN.{length};
+ghost use Rattle.terms.specs.Rotation.{metBy, partnerBy, scaledMet, mixed};
+ghost use Rattle.terms.specs.Branch.{branchLone, branchRow, branchTo};
+ghost use Rattle.terms.specs.declared.Axis.the-variants.{Z, Zz};
+ghost use Rattle.rows.specs.Rows.{coeffAt, termAt, termsIn, putCoeff, Room, Holds};
+ghost use Rattle.branches.specs.Rotated.{Rotated};
+use crate::partners;
+use rows::row;
+use terms::Axis;
+use terms::Found;
+
+// Row i times the cosine, if it is met.
+fn scale_row(words: &[u64], coeffs: &mut [f64], w: usize, i: usize, axis: Axis, sin: f64, cos: f64)
+    requires { ⌜ (i * (2 * w) + 2 * w ≤ length (now words)) × (2 * i + 1 < length (now coeffs)) ⌝ }
+    ensures { λ _. ⌜ now (coeffs .exit) ≡ putCoeff (now (coeffs .entry)) i (scaledMet (metBy axis) (partnerBy w axis) sin cos (termAt (2 * w) (now (words .entry)) (now (coeffs .entry)) i) .coeff) ⌝ }
+{
+    if partners::row_met(words, w, i, axis) {
+        let v = row::value_at(coeffs, i);
+        row::store_value(coeffs, i, v.scaled(cos));
+    }
+}
+
+fn scale_rows(words: &[u64], coeffs: &mut [f64], w: usize, n: usize, axis: Axis, sin: f64, cos: f64)
+    requires { ⌜ Room (2 * w) n (now words) (now coeffs) ⌝ }
+    ensures { λ _. ⌜ Holds (2 * w) n n (map (scaledMet (metBy axis) (partnerBy w axis) sin cos) (termsIn (2 * w) n (now (words .entry)) (now (coeffs .entry))))
+        (now (words .entry)) (now (words .entry)) (now (coeffs .entry)) (now (coeffs .exit)) ⌝ }
+{
+    let mut i = 0;
+    while i < n {
+        scale_row(words, coeffs, w, i, axis, sin, cos);
+        i += 1;
+    }
+}
+
+// Two rows that are each other's partners, each from the old values.
+fn pair_rows(coeffs: &mut [f64], i: usize, j: usize, sin: f64, cos: f64)
+    requires { ⌜ (2 * i + 1 < length (now coeffs)) × (2 * j + 1 < length (now coeffs)) ⌝ }
+    ensures { λ _. ⌜ now (coeffs .exit) ≡ putCoeff
+        (putCoeff (now (coeffs .entry)) i (mixed sin cos (coeffAt (now (coeffs .entry)) i) (coeffAt (now (coeffs .entry)) j)))
+        j (mixed sin cos (coeffAt (now (coeffs .entry)) j) (coeffAt (now (coeffs .entry)) i)) ⌝ }
+{
+    let a = row::value_at(coeffs, i);
+    let b = row::value_at(coeffs, j);
+    row::store_value(coeffs, i, a.scaled(cos).plus(b.flipped(sin)));
+    row::store_value(coeffs, j, b.scaled(cos).plus(a.flipped(sin)));
+}
+
+// Row i without a partner: rewritten where the cosine is 0, else scaled, with its partner's word appended as row m.
+fn lone_row(
+    words: &mut [u64],
+    coeffs: &mut [f64],
+    w: usize,
+    m: usize,
+    i: usize,
+    axis: Axis,
+    sin: f64,
+    cos: f64,
+) -> usize
+    requires { ⌜ (i < m) × Room (2 * w) (m + 1) (now words) (now coeffs) ⌝ }
+    ensures { λ r. ⌜ (m ≤ r) × (r ≤ m + 1) × Holds (2 * w) r r (branchLone (metBy axis) (partnerBy w axis) sin cos i (termsIn (2 * w) m (now (words .entry)) (now (coeffs .entry))))
+        (now (words .entry)) (now (words .exit)) (now (coeffs .entry)) (now (coeffs .exit)) ⌝ }
+{
+    let c = row::value_at(coeffs, i);
+    if cos == 0.0 {
+        partners::flip_row(words, w, i, axis);
+        row::store_value(coeffs, i, c.flipped(sin));
+        return m;
+    }
+    row::store_value(coeffs, i, c.scaled(cos));
+    partners::append_partner(words, coeffs, w, m, i, axis, c.flipped(sin));
+    m + 1
+}
+
+fn branch_row(
+    words: &mut [u64],
+    coeffs: &mut [f64],
+    w: usize,
+    n: usize,
+    m: usize,
+    i: usize,
+    axis: Axis,
+    sin: f64,
+    cos: f64,
+) -> usize
+    requires { ⌜ (i < n) × (n ≤ m) × Room (2 * w) (m + 1) (now words) (now coeffs) ⌝ }
+    ensures { λ r. ⌜ (m ≤ r) × (r ≤ m + 1) × Holds (2 * w) r r (branchRow (metBy axis) (partnerBy w axis) sin cos n i (termsIn (2 * w) m (now (words .entry)) (now (coeffs .entry))))
+        (now (words .entry)) (now (words .exit)) (now (coeffs .entry)) (now (coeffs .exit)) ⌝ }
+{
+    if !partners::row_met(words, w, i, axis) {
+        return m;
+    }
+    let found = partners::find_partner(words, w, n, i, axis);
+    let Found::At(j) = found else {
+        return lone_row(words, coeffs, w, m, i, axis, sin, cos);
+    };
+    if i < j {
+        pair_rows(coeffs, i, j, sin, cos);
+    }
+    m
+}
+
+fn branch_rows(
+    words: &mut [u64],
+    coeffs: &mut [f64],
+    w: usize,
+    n: usize,
+    axis: Axis,
+    sin: f64,
+    cos: f64,
+) -> usize
+    requires { ⌜ Room (2 * w) (2 * n) (now words) (now coeffs) ⌝ }
+    ensures { λ r. ⌜ (r ≤ 2 * n) × Holds (2 * w) r r (branchTo (metBy axis) (partnerBy w axis) sin cos n n (termsIn (2 * w) n (now (words .entry)) (now (coeffs .entry))))
+        (now (words .entry)) (now (words .exit)) (now (coeffs .entry)) (now (coeffs .exit)) ⌝ }
+{
+    let mut m = n;
+    let mut i = 0;
+    while i < n {
+        m = branch_row(words, coeffs, w, n, m, i, axis, sin, cos);
+        i += 1;
+    }
+    m
+}
+
+fn branch(
+    words: &mut [u64],
+    coeffs: &mut [f64],
+    w: usize,
+    n: usize,
+    axis: Axis,
+    sin: f64,
+    cos: f64,
+) -> usize
+    ensures { λ r. ⌜ Rotated w n axis sin cos r (now (words .entry)) (now (words .exit)) (now (coeffs .entry)) (now (coeffs .exit)) ⌝ }
+{
+    if row::rows_in(words.len(), coeffs.len(), w) / 2 < n {
+        return n;
+    }
+    if sin == 0.0 {
+        scale_rows(words, coeffs, w, n, axis, sin, cos);
+        return n;
+    }
+    branch_rows(words, coeffs, w, n, axis, sin, cos)
+}
+
+// A rotation about Z at one qubit: t, tdg, rz and p. The answer is the number of terms, where there are 2 * n rows; else nothing changes.
+pub fn branch_z_rotation(
+    words: &mut [u64],
+    coeffs: &mut [f64],
+    w: usize,
+    n: usize,
+    qubit: usize,
+    sin: f64,
+    cos: f64,
+) -> usize
+    ensures { λ r. ⌜ Rotated w n (Z qubit) sin cos r (now (words .entry)) (now (words .exit)) (now (coeffs .entry)) (now (coeffs .exit)) ⌝ }
+{
+    branch(words, coeffs, w, n, Axis::Z(qubit), sin, cos)
+}
+
+// A rotation about ZZ at two qubits: rzz.
+pub fn branch_zz_rotation(
+    words: &mut [u64],
+    coeffs: &mut [f64],
+    w: usize,
+    n: usize,
+    a: usize,
+    b: usize,
+    sin: f64,
+    cos: f64,
+) -> usize
+    ensures { λ r. ⌜ Rotated w n (Zz a b) sin cos r (now (words .entry)) (now (words .exit)) (now (coeffs .entry)) (now (coeffs .exit)) ⌝ }
+{
+    branch(words, coeffs, w, n, Axis::Zz(a, b), sin, cos)
+}

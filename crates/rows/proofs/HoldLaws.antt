@@ -1,0 +1,170 @@
+-- What a store into a row does to the terms that the buffers hold. Assumes nothing.
+use mathlib.Core.Path.{_≡_, refl, sym, ap, _∙_, subst}
+use mathlib.Core.List.{List, [], _∷_, _++_, append-assoc, append-nil}
+use Prim.Native.Nat.{ℕ, zero, suc, _+_, _*_, _≤_, _<_}
+use native.Mathlib.Nat.{suc-mul, mul-le-mul-right, mul-suc, zero-mul, mul-zero}
+use native.Mathlib.Numerals.{add-one}
+use native.Mathlib.Omega.{arith}
+use lib.ListN.{length, getD, set, take, drop, length-set, take-append-drop}
+use lib.Seq.{take-suc, take-add}
+use lib.Ieee.{Float, nan}
+use lib.Dec.{leb}
+use mathlib.Core.Bool.{true}
+use borrow.Author.Tests.{leb-true}
+use Rattle.terms.proofs.CaseLaws.{and-true}
+use Rattle.terms.specs.declared.Complex64.{Complex64}
+use Rattle.terms.specs.Lists.{tab, mapTo}
+use Rattle.terms.specs.Term.{Term, noTerm}
+use Rattle.rows.specs.Rows.{keyAt, coeffAt, termAt, termsIn, putCoeff, putKey, Holds, Room, keysOf, coeffsOf}
+use Rattle.terms.proofs.ListLaws.{length-tab, getD-tab, tab-ext, tab-snoc, tab-set, mapTo-suc}
+use Rattle.rows.proofs.RowLaws.{length-putCoeff, val-put-same, val-put-other, drop-putCoeff, row-before, drop-more, length-putKey, drop-putKey, key-put-same, key-put-other}
+
+pub hold-start : (s R m : ℕ) (ws : List ℕ) (cs : List Float) → Holds s R m (termsIn s m ws cs) ws ws cs cs
+hold-start s R m ws cs = record { terms = refl; words-kept = refl; coeffs-kept = refl; words-long = refl; coeffs-long = refl }
+
+module _ {s R m : ℕ} {ts : List Term} {ws₀ ws : List ℕ} {cs₀ cs : List Float} (H : Holds s R m ts ws₀ ws cs₀ cs) where
+  pub hold-count : length ts ≡ m
+  hold-count = ap length (sym (H .terms)) ∙ length-tab m (termAt s ws cs)
+
+  pub hold-at : (i : ℕ) → i < m → getD ts i noTerm ≡ termAt s ws cs i
+  hold-at i h = ap (λ (l : List Term). getD l i noTerm) (sym (H .terms)) ∙ getD-tab m (termAt s ws cs) i noTerm h
+
+  pub hold-room : Room s R ws₀ cs₀ → Room s R ws cs
+  hold-room r = record { words-room = rw (H .words-long) (r .words-room); coeffs-room = rw (H .coeffs-long) (r .coeffs-room) }
+
+  -- another coefficient in row i
+  pub hold-val : Room s R ws cs → m ≤ R → (i : ℕ) → i < m → (v : Complex64)
+      → Holds s R m (set ts i (record { key = keyAt s ws i; coeff = v })) ws₀ ws cs₀ (putCoeff cs i v)
+  hold-val r le i h v =
+      let room = r .coeffs-room in
+      record {
+        terms = tab-set m (termAt s ws cs) (termAt s ws (putCoeff cs i v)) i (record { key = keyAt s ws i; coeff = v }) h
+            (λ k. record { key = keyAt s ws i; coeff = val-put-same cs i v (omega arith) k })
+            (λ j l n k. record { key = keyAt s ws j; coeff = val-put-other cs i j v n k })
+            ∙ ap (λ (l : List Term). set l i (record { key = keyAt s ws i; coeff = v })) (H .terms);
+        words-kept = H .words-kept;
+        coeffs-kept = drop-putCoeff (2 * R) cs i v (omega arith) ∙ H .coeffs-kept;
+        words-long = H .words-long;
+        coeffs-long = length-putCoeff cs i v ∙ H .coeffs-long;
+      }
+
+  -- another term in row i
+  pub hold-set : Room s R ws cs → m ≤ R → (i : ℕ) → i < m → (t : Term) → length (t .key) ≡ s
+      → Holds s R m (set ts i t) ws₀ (putKey s ws i (t .key)) cs₀ (putCoeff cs i (t .coeff))
+  hold-set r le i h t e =
+      let room = r .coeffs-room in
+      let ri : i * s + s ≤ R * s = row-before s (omega arith) in
+      let rw : i * s + s ≤ length ws = omega (arith, r .words-room) in
+      record {
+        terms = tab-set m (termAt s ws cs) (termAt s (putKey s ws i (t .key)) (putCoeff cs i (t .coeff))) i t h
+            (λ k. record { key = key-put-same s ws i (t .key) rw e k; coeff = val-put-same cs i (t .coeff) (omega arith) k })
+            (λ j l n k. record { key = key-put-other s ws i (t .key) rw e j n k; coeff = val-put-other cs i j (t .coeff) n k })
+            ∙ ap (λ (l : List Term). set l i t) (H .terms);
+        words-kept = drop-more (i * s + s) (R * s) (putKey s ws i (t .key)) ws ri (drop-putKey s ws i (t .key) rw e) ∙ H .words-kept;
+        coeffs-kept = drop-putCoeff (2 * R) cs i (t .coeff) (omega arith) ∙ H .coeffs-kept;
+        words-long = length-putKey s ws i (t .key) rw e ∙ H .words-long;
+        coeffs-long = length-putCoeff cs i (t .coeff) ∙ H .coeffs-long;
+      }
+
+  -- a term more, in row m
+  pub hold-push : Room s R ws cs → m < R → (t : Term) → length (t .key) ≡ s
+      → Holds s R (m + 1) (ts ++ (t ∷ [])) ws₀ (putKey s ws m (t .key)) cs₀ (putCoeff cs m (t .coeff))
+  hold-push r lt t e =
+      let room = r .coeffs-room in
+      let rm : m * s + s ≤ R * s = row-before s lt in
+      let rw : m * s + s ≤ length ws = omega (arith, r .words-room) in
+      let f : ℕ → Term = termAt s (putKey s ws m (t .key)) (putCoeff cs m (t .coeff)) in
+      let last : f m ≡ t = λ k. record { key = key-put-same s ws m (t .key) rw e k; coeff = val-put-same cs m (t .coeff) (omega arith) k } in
+      let front : tab m f ≡ ts = tab-ext m f (termAt s ws cs)
+      (λ j l k. record { key = key-put-other s ws m (t .key) rw e j (λ q. omega arith) k; coeff = val-put-other cs m j (t .coeff) (λ q. omega arith) k }) ∙ H .terms in
+      record {
+        terms = ap (λ (n : ℕ). tab n f) (add-one m) ∙ tab-snoc m f ∙ (λ k. front k ++ (last k ∷ []));
+        words-kept = drop-more (m * s + s) (R * s) (putKey s ws m (t .key)) ws rm (drop-putKey s ws m (t .key) rw e) ∙ H .words-kept;
+        coeffs-kept = drop-putCoeff (2 * R) cs m (t .coeff) (omega arith) ∙ H .coeffs-kept;
+        words-long = length-putKey s ws m (t .key) rw e ∙ H .words-long;
+        coeffs-long = length-putCoeff cs m (t .coeff) ∙ H .coeffs-long;
+      }
+
+-- ---- the terms written back
+
+coeffsOf-snoc : (l : List Term) (t : Term) → coeffsOf (l ++ (t ∷ [])) ≡ coeffsOf l ++ (t .coeff .re ∷ t .coeff .im ∷ [])
+unfolding coeffsOf
+coeffsOf-snoc [] t = refl
+coeffsOf-snoc (x ∷ l) t = ap (λ (r : List Float). x .coeff .re ∷ x .coeff .im ∷ r) (coeffsOf-snoc l t)
+
+keysOf-snoc : (l : List Term) (t : Term) → keysOf (l ++ (t ∷ [])) ≡ keysOf l ++ t .key
+unfolding keysOf
+keysOf-snoc [] t = append-nil (t .key)
+keysOf-snoc (x ∷ l) t = ap (λ (r : List ℕ). x .key ++ r) (keysOf-snoc l t) ∙ sym (append-assoc (x .key) (keysOf l) (t .key))
+
+take-two : (cs : List Float) (n : ℕ) → n + 1 < length cs → take (suc (suc n)) cs ≡ take n cs ++ (getD cs n nan ∷ getD cs (n + 1) nan ∷ [])
+take-two cs n h =
+    take-suc cs (suc n) nan (omega arith) ∙ (λ k. take-suc cs n nan (omega arith) k ++ (getD cs (sym (add-one n) k) nan ∷ []))
+    ∙ append-assoc (take n cs) (getD cs n nan ∷ []) (getD cs (n + 1) nan ∷ [])
+
+pub coeffsOf-terms : (s n : ℕ) (ws : List ℕ) (cs : List Float) → 2 * n ≤ length cs → coeffsOf (termsIn s n ws cs) ≡ take (2 * n) cs
+unfolding coeffsOf tab
+coeffsOf-terms s zero ws cs h = refl
+coeffsOf-terms s (suc n) ws cs h =
+    let twice : 2 * suc n ≡ suc (suc (2 * n)) = omega arith in
+    ap coeffsOf (tab-snoc n (termAt s ws cs)) ∙ coeffsOf-snoc (termsIn s n ws cs) (termAt s ws cs n)
+    ∙ ap (λ (l : List Float). l ++ (getD cs (2 * n) nan ∷ getD cs (2 * n + 1) nan ∷ [])) (coeffsOf-terms s n ws cs (omega arith))
+    ∙ sym (take-two cs (2 * n) (omega arith)) ∙ ap (λ (k : ℕ). take k cs) (sym twice)
+
+pub keysOf-terms : (s n : ℕ) (ws : List ℕ) (cs : List Float) → keysOf (termsIn s n ws cs) ≡ take (n * s) ws
+unfolding keysOf tab
+keysOf-terms s zero ws cs = ap (λ (k : ℕ). take k ws) (sym (zero-mul s))
+keysOf-terms s (suc n) ws cs =
+    ap keysOf (tab-snoc n (termAt s ws cs)) ∙ keysOf-snoc (termsIn s n ws cs) (termAt s ws cs n)
+    ∙ ap (λ (l : List ℕ). l ++ keyAt s ws n) (keysOf-terms s n ws cs)
+    ∙ sym (take-add (n * s) s ws) ∙ ap (λ (k : ℕ). take k ws) (sym (suc-mul n s))
+
+-- ---- a turn of a loop that changes the coefficient of each row in turn
+pub hold-map : (F : Term → Term) → ((t : Term) → F t .key ≡ t .key) → (i : ℕ) (l : List Term) {s R m : ℕ} {ws₀ ws : List ℕ} {cs₀ cs cs′ : List Float}
+    → Holds s R m (mapTo F i l) ws₀ ws cs₀ cs → Room s R ws₀ cs₀ → m ≤ R → i < m → cs′ ≡ putCoeff cs i (F (termAt s ws cs i) .coeff)
+    → Holds s R m (mapTo F (i + 1) l) ws₀ ws cs₀ cs′
+hold-map F same i l {s} {R} {m} {ws₀} {ws} {cs₀} {cs} {cs′} H room le h e =
+    let t : Term = termAt s ws cs i in
+    let whole : _≡_ {A = Term} (record { key = keyAt s ws i; coeff = F t .coeff }) (F (getD (mapTo F i l) i noTerm)) =
+    (λ k. record { key = sym (same t) k; coeff = F t .coeff }) ∙ ap F (sym (hold-at H i h)) in
+    let after : set (mapTo F i l) i (record { key = keyAt s ws i; coeff = F t .coeff }) ≡ mapTo F (i + 1) l =
+    ap (set (mapTo F i l) i) whole ∙ mapTo-suc F l i noTerm ∙ ap (λ (k : ℕ). mapTo F k l) (sym (add-one i)) in
+    rw (e, ← after) (hold-val H (hold-room H room) le i h (F t .coeff))
+
+-- ---- one state after another
+
+pub hold-trans : {s R m m′ : ℕ} {ts ts′ : List Term} {ws₀ ws ws′ : List ℕ} {cs₀ cs cs′ : List Float}
+    → Holds s R m ts ws₀ ws cs₀ cs → Holds s R m′ ts′ ws ws′ cs cs′ → Holds s R m′ ts′ ws₀ ws′ cs₀ cs′
+hold-trans H K = record {
+  terms = K .terms;
+  words-kept = K .words-kept ∙ H .words-kept;
+  coeffs-kept = K .coeffs-kept ∙ H .coeffs-kept;
+  words-long = K .words-long ∙ H .words-long;
+  coeffs-long = K .coeffs-long ∙ H .coeffs-long;
+}
+
+pub hold-wide : {s R S m : ℕ} {ts : List Term} {ws₀ ws : List ℕ} {cs₀ cs : List Float} → R ≤ S → Holds s R m ts ws₀ ws cs₀ cs → Holds s S m ts ws₀ ws cs₀ cs
+hold-wide {s} {R} {S} {m} {ts} {ws₀} {ws} {cs₀} {cs} le H = record {
+  terms = H .terms;
+  words-kept = drop-more (R * s) (S * s) ws ws₀ (mul-le-mul-right s le) (H .words-kept);
+  coeffs-kept = drop-more (2 * R) (2 * S) cs cs₀ (omega arith) (H .coeffs-kept);
+  words-long = H .words-long;
+  coeffs-long = H .coeffs-long;
+}
+
+pub room-less : {s R S : ℕ} {ws : List ℕ} {cs : List Float} → R ≤ S → Room s S ws cs → Room s R ws cs
+room-less {s} {R} {S} le r = let m = mul-le-mul-right s le in record { words-room = omega (arith, r .words-room); coeffs-room = omega (arith, r .coeffs-room) }
+
+pub room-at : {s R : ℕ} {ws : List ℕ} {cs : List Float} → Room s R ws cs → (i : ℕ) → i < R → (i * s + s ≤ length ws) × (2 * i + 1 < length cs)
+room-at {s} r i h = let b = row-before s h in (omega (arith, r .words-room), omega (arith, r .coeffs-room))
+
+-- ---- a turn of a loop that changes key and coefficient of each row in turn
+pub hold-map-row : (F : Term → Term) (i : ℕ) (l : List Term) {s R m : ℕ} {ws₀ ws ws′ : List ℕ} {cs₀ cs cs′ : List Float}
+    → Holds s R m (mapTo F i l) ws₀ ws cs₀ cs → Room s R ws₀ cs₀ → m ≤ R → i < m → length (F (termAt s ws cs i) .key) ≡ s
+    → ws′ ≡ putKey s ws i (F (termAt s ws cs i) .key) → cs′ ≡ putCoeff cs i (F (termAt s ws cs i) .coeff)
+    → Holds s R m (mapTo F (i + 1) l) ws₀ ws′ cs₀ cs′
+hold-map-row F i l {s} {R} {m} {ws₀} {ws} {ws′} {cs₀} {cs} {cs′} H room le h whole ew ec =
+    let t : Term = F (termAt s ws cs i) in
+    let after : set (mapTo F i l) i t ≡ mapTo F (i + 1) l =
+    ap (λ (u : Term). set (mapTo F i l) i (F u)) (sym (hold-at H i h)) ∙ mapTo-suc F l i noTerm ∙ ap (λ (k : ℕ). mapTo F k l) (sym (add-one i)) in
+    rw (ew, ec, ← after) (hold-set H (hold-room H room) le i h t whole)

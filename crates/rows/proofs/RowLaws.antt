@@ -1,0 +1,159 @@
+-- Laws of rows: what a store into one row leaves in each. Assumes nothing.
+use mathlib.Core.Path.{_≡_, refl, sym, ap, _∙_, subst}
+use mathlib.Core.Logic.{⊎-elim}
+use mathlib.Core.List.{List, [], _∷_, _++_, append-assoc}
+use Prim.Native.Nat.{ℕ, zero, suc, _+_, _-_, _*_, _≤_, _<_}
+use native.Mathlib.Nat.{suc-mul, mul-le-mul-right, add-sub-of-le, eq-or-lt-of-le}
+use native.Mathlib.Omega.{arith}
+use lib.ListN.{length, getD, set, take, drop, length-set, length-append, length-take, length-drop, take-append-drop}
+use lib.Seq.{getD-set-same, getD-set-other, drop-set-lt, length-take-le, take-append-le, drop-append-le, take-append-seam, drop-append-seam, drop-append-add, take-at, drop-at, drop-drop, take-take, set-split, set-append-left, getD-take, getD-drop, split-at, take-set-le, drop-set-add, paste, paste-zero, paste-suc, set-getD, drop-paste}
+use native.Mathlib.Numerals.{add-one}
+use lib.Ieee.{Float, nan}
+use Rattle.terms.specs.declared.Complex64.{Complex64}
+use Rattle.terms.proofs.CaseLaws.{lt-or-le}
+use Rattle.rows.specs.Rows.{keyAt, coeffAt, putCoeff, putKey}
+
+-- ---- coefficients
+
+pub length-putCoeff : (cs : List Float) (i : ℕ) (v : Complex64) → length (putCoeff cs i v) ≡ length cs
+length-putCoeff cs i v = simp length-set
+
+pub val-put-same : (cs : List Float) (i : ℕ) (v : Complex64) → 2 * i + 1 < length cs → coeffAt (putCoeff cs i v) i ≡ v
+val-put-same cs i v h =
+    λ k. record {
+      re = (getD-set-other (set cs (2 * i) (v .re)) (2 * i + 1) (2 * i) (v .im) nan (λ q. omega arith) ∙ getD-set-same cs (2 * i) (v .re) nan (omega arith)) k;
+      im = getD-set-same (set cs (2 * i) (v .re)) (2 * i + 1) (v .im) nan (simp length-set h) k;
+    }
+
+pub val-put-other : (cs : List Float) (i j : ℕ) (v : Complex64) → (j ≡ i → ⊥) → coeffAt (putCoeff cs i v) j ≡ coeffAt cs j
+val-put-other cs i j v n =
+    λ k. record {
+      re = (getD-set-other (set cs (2 * i) (v .re)) (2 * i + 1) (2 * j) (v .im) nan (λ q. omega arith) ∙ getD-set-other cs (2 * i) (2 * j) (v .re) nan (λ q. n (omega arith))) k;
+      im = (getD-set-other (set cs (2 * i) (v .re)) (2 * i + 1) (2 * j + 1) (v .im) nan (λ q. n (omega arith)) ∙ getD-set-other cs (2 * i) (2 * j + 1) (v .re) nan (λ q. omega arith)) k;
+    }
+
+pub drop-putCoeff : (p : ℕ) (cs : List Float) (i : ℕ) (v : Complex64) → 2 * i + 1 < p → drop p (putCoeff cs i v) ≡ drop p cs
+drop-putCoeff p cs i v h = drop-set-lt p (set cs (2 * i) (v .re)) (2 * i + 1) (v .im) h ∙ drop-set-lt p cs (2 * i) (v .re) (omega arith)
+
+-- a coefficient stored where it stands
+pub put-val-same : (cs : List Float) (i : ℕ) → putCoeff cs i (coeffAt cs i) ≡ cs
+put-val-same cs i = ap (λ (l : List Float). set l (2 * i + 1) (getD cs (2 * i + 1) nan)) (set-getD cs (2 * i) nan) ∙ set-getD cs (2 * i + 1) nan
+
+-- ---- keys
+
+-- a row ends where a later one begins, or before
+pub row-before : (s : ℕ) {i j : ℕ} → i < j → i * s + s ≤ j * s
+row-before s {i} {j} h = subst (λ (n : ℕ). n ≤ j * s) (suc-mul i s) (mul-le-mul-right s h)
+
+pub drop-more : {A : Type 0} (p q : ℕ) (x y : List A) → p ≤ q → drop p x ≡ drop p y → drop q x ≡ drop q y
+drop-more p q x y h e =
+    let s : p + (q - p) ≡ q = omega arith in
+    subst (λ (n : ℕ). drop n x ≡ drop n y) s (sym (drop-drop (q - p) p x) ∙ ap (drop (q - p)) e ∙ drop-drop (q - p) p y)
+
+-- a key lies in a prefix that has it whole
+pub key-prefix : (s : ℕ) (a b : List ℕ) (j : ℕ) → j * s + s ≤ length a → keyAt s (a ++ b) j ≡ keyAt s a j
+key-prefix s a b j h =
+    ap (take s) (drop-append-le (j * s) a b (omega arith))
+    ∙ take-append-le s (drop (j * s) a) b (simp length-drop (omega arith))
+
+pub key-suffix : (s p : ℕ) (x y : List ℕ) (j : ℕ) → p ≤ j * s → drop p x ≡ drop p y → keyAt s x j ≡ keyAt s y j
+key-suffix s p x y j h e = ap (take s) (drop-more p (j * s) x y h e)
+
+pub after : {i j : ℕ} → i ≤ j → (j ≡ i → ⊥) → i < j
+after {i} {j} l n = ⊎-elim (λ e. absurd (n (sym e))) (λ h. h) (eq-or-lt-of-le l)
+
+module _ (s : ℕ) (ws : List ℕ) (i : ℕ) (k : List ℕ) (room : i * s + s ≤ length ws) (whole : length k ≡ s) where
+  head-length : length (take (i * s) ws) ≡ i * s
+  head-length = length-take-le (i * s) ws (omega arith)
+
+  pub length-putKey : length (putKey s ws i k) ≡ length ws
+  length-putKey = rw (length-append, length-append, length-drop, head-length) (omega arith)
+
+  pub drop-putKey : drop (i * s + s) (putKey s ws i k) ≡ drop (i * s + s) ws
+  drop-putKey =
+      ap (drop (i * s + s)) (sym (append-assoc (take (i * s) ws) k (drop (i * s + s) ws)))
+      ∙ drop-at (take (i * s) ws ++ k) (drop (i * s + s) ws) (i * s + s) (length-append (take (i * s) ws) k ∙ (λ z. head-length z + whole z))
+
+  pub key-put-same : keyAt s (putKey s ws i k) i ≡ k
+  key-put-same =
+      ap (take s) (drop-at (take (i * s) ws) (k ++ drop (i * s + s) ws) (i * s) head-length)
+      ∙ take-at k (drop (i * s + s) ws) s whole
+
+  pub key-put-other : (j : ℕ) → (j ≡ i → ⊥) → keyAt s (putKey s ws i k) j ≡ keyAt s ws j
+  key-put-other j n = ⊎-elim
+      (λ (l : j < i).
+      let r : j * s + s ≤ length (take (i * s) ws) = rw head-length (row-before s l) in
+      key-prefix s (take (i * s) ws) (k ++ drop (i * s + s) ws) j r
+      ∙ sym (key-prefix s (take (i * s) ws) (drop (i * s) ws) j r) ∙ ap (λ (z : List ℕ). keyAt s z j) (take-append-drop (i * s) ws))
+      (λ (l : i ≤ j). key-suffix s (i * s + s) (putKey s ws i k) ws j (row-before s (after l n)) drop-putKey)
+      (lt-or-le j i)
+
+-- ---- one word of a row
+
+pub word-at : (s : ℕ) (ws : List ℕ) (i k : ℕ) → k < s → getD (keyAt s ws i) k 0 ≡ getD ws (i * s + k) 0
+word-at s ws i k h = getD-take s (drop (i * s) ws) k 0 h ∙ getD-drop (i * s) ws k 0
+
+pub length-key : (s : ℕ) (ws : List ℕ) (i : ℕ) → i * s + s ≤ length ws → length (keyAt s ws i) ≡ s
+length-key s ws i h = length-take-le s (drop (i * s) ws) (simp length-drop (omega arith))
+
+pub set-is-put : (s : ℕ) (ws : List ℕ) (i k v : ℕ) → k < s → i * s + s ≤ length ws → set ws (i * s + k) v ≡ putKey s ws i (set (keyAt s ws i) k v)
+set-is-put s ws i k v h room =
+    let parts : drop (i * s) ws ≡ keyAt s ws i ++ drop (i * s + s) ws =
+    sym (take-append-drop s (drop (i * s) ws)) ∙ ap (λ (l : List ℕ). keyAt s ws i ++ l) (drop-drop s (i * s) ws) in
+    let inside : k < length (keyAt s ws i) = subst (λ (n : ℕ). k < n) (sym (length-key s ws i room)) h in
+    sym (take-append-drop (i * s) (set ws (i * s + k) v))
+    ∙ (λ z. take-set-le (i * s) ws (i * s + k) v (omega arith) z ++ drop-set-add (i * s) ws k v z)
+    ∙ ap (λ (l : List ℕ). take (i * s) ws ++ set l k v) parts
+    ∙ ap (λ (l : List ℕ). take (i * s) ws ++ l) (set-append-left (keyAt s ws i) (drop (i * s + s) ws) k v inside)
+
+-- ---- a row copied to a later one, word by word
+
+module _ (s : ℕ) (ws : List ℕ) (from to : ℕ) where
+  -- the buffer with the first k words copied
+  unfoldable pub copied : ℕ → List ℕ
+  copied k = paste ws (to * s) (drop (from * s) ws) k
+
+  pub copied-zero : ws ≡ copied 0
+  unfolding copied
+  copied-zero = paste-zero ws (to * s) (drop (from * s) ws)
+
+  pub copied-all : copied s ≡ putKey s ws to (keyAt s ws from)
+  unfolding copied
+  copied-all = append-assoc (take (to * s) ws) (keyAt s ws from) (drop (to * s + s) ws)
+
+  -- a word of another row is as it was
+  copied-other : (from ≡ to → ⊥) → from * s + s ≤ length ws → to * s + s ≤ length ws → (k : ℕ) → k < s → getD (copied k) (from * s + k) 0 ≡ getD ws (from * s + k) 0
+  unfolding copied
+  copied-other d hf room k h = ⊎-elim
+      (λ (lt : from < to).
+      let fits : from * s + s ≤ to * s = row-before s lt in
+      let head : take (to * s) (copied k) ≡ take (to * s) ws =
+      ap (take (to * s)) (append-assoc (take (to * s) ws) (take k (drop (from * s) ws)) (drop (to * s + k) ws))
+      ∙ take-at (take (to * s) ws) (take k (drop (from * s) ws) ++ drop (to * s + k) ws) (to * s) (length-take-le (to * s) ws (omega arith)) in
+      sym (getD-take (to * s) (copied k) (from * s + k) 0 (omega arith)) ∙ ap (λ (l : List ℕ). getD l (from * s + k) 0) head
+      ∙ getD-take (to * s) ws (from * s + k) 0 (omega arith))
+      (λ (le : to ≤ from).
+      let fits : to * s + s ≤ from * s = row-before s (after le d) in
+      let place : to * s + k + (from * s - to * s) ≡ from * s + k = omega arith in
+      let tail : drop (to * s + k) (copied k) ≡ drop (to * s + k) ws = drop-paste ws (to * s) (drop (from * s) ws) k (omega arith) (simp length-drop (omega arith)) in
+      ap (λ (p : ℕ). getD (copied k) p 0) (sym place) ∙ sym (getD-drop (to * s + k) (copied k) (from * s - to * s) 0)
+      ∙ ap (λ (l : List ℕ). getD l (from * s - to * s) 0) tail ∙ getD-drop (to * s + k) ws (from * s - to * s) 0 ∙ ap (λ (p : ℕ). getD ws p 0) place)
+      (lt-or-le from to)
+
+  pub copied-suc : (from ≡ to → ⊥) → from * s + s ≤ length ws → to * s + s ≤ length ws → (k : ℕ) → k < s → set (copied k) (to * s + k) (getD (copied k) (from * s + k) 0) ≡ copied (k + 1)
+  unfolding copied
+  copied-suc d hf room k h =
+      ap (set (copied k) (to * s + k)) (copied-other d hf room k h ∙ sym (getD-drop (from * s) ws k 0))
+      ∙ paste-suc ws (to * s) (drop (from * s) ws) k 0 (omega arith) (simp length-drop (omega arith))
+      ∙ ap (paste ws (to * s) (drop (from * s) ws)) (sym (add-one k))
+
+pub put-key-same : (s : ℕ) (ws : List ℕ) (i : ℕ) → putKey s ws i (keyAt s ws i) ≡ ws
+put-key-same s ws i =
+    ap (λ (l : List ℕ). take (i * s) ws ++ (keyAt s ws i ++ l)) (sym (drop-drop s (i * s) ws))
+    ∙ ap (λ (l : List ℕ). take (i * s) ws ++ l) (take-append-drop s (drop (i * s) ws)) ∙ take-append-drop (i * s) ws
+
+pub put-key-put : (s : ℕ) (ws : List ℕ) (i : ℕ) (a b : List ℕ) → i * s + s ≤ length ws → length a ≡ s → putKey s (putKey s ws i a) i b ≡ putKey s ws i b
+put-key-put s ws i a b room whole =
+    let front : take (i * s) (putKey s ws i a) ≡ take (i * s) ws =
+    take-at (take (i * s) ws) (a ++ drop (i * s + s) ws) (i * s) (length-take-le (i * s) ws (omega arith)) in
+    λ k. front k ++ (b ++ drop-putKey s ws i a room whole k)

@@ -1,0 +1,17 @@
+-- `number_at` meets its contract. Assumes nothing.
+use denote.Ref.{now}
+use lib.Ieee.{div, ofBits}
+use Rattle.rows.proofs.RowAccess.{no-number}
+use borrow.Author.Needs.{needs}
+use Rattle.rows.proofs.row.number_at.Statement.{statement}
+use Rattle.rows.proofs.row.number_at.Tie as tie
+
+returns-2 : tie.Need-returns-2
+unfolding div ofBits
+returns-2 c = no-number (now (c .before .args .coeffs)) (c .before .args .k) (c .if1 .left)
+
+pub number-at-spec : {M : Type 1} → statement M
+number-at-spec =
+    tie.close
+    (tie.spec
+    (λ c. search needs) (λ c. search needs) (λ c. search needs) returns-2)

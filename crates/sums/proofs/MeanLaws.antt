@@ -1,0 +1,82 @@
+-- Words that are all 0, one row of the mean, and finite coefficients row by row. Assumes nothing.
+use mathlib.Core.Path.{_≡_, refl, sym, ap, _∙_}
+use mathlib.Core.Bool.{Bool, true, false, cond, _&&_}
+use mathlib.Core.List.{List, []}
+use Prim.Native.Nat.{ℕ, zero, suc, _+_, _*_, _/_, _≤_, _<_, zero-le, suc-le-suc}
+use native.Mathlib.Nat.{le-of-suc-le-suc, not-suc-le-zero}
+use native.Mathlib.Omega.{arith}
+use lib.ListN.{length, getD, take, drop, length-drop, List·getD-eq-default}
+use lib.Seq.{length-take-le, getD-take, getD-drop, take-take}
+use lib.Ieee.{Float, nan, binary64, add}
+use Rattle.numbers.specs.Tests.{isFinite}
+use Rattle.words.specs.Keys.{allZero, noX}
+use Rattle.terms.specs.declared.Complex64.{Complex64}
+use Rattle.terms.specs.Mean.{addMean}
+use Rattle.terms.specs.Coefficient.{finiteOf}
+use Rattle.terms.specs.Lists.{tab}
+use Rattle.terms.specs.Term.{Term, allFinite}
+use Rattle.terms.proofs.CaseLaws.{and-false}
+use Rattle.rows.specs.Rows.{keyAt, coeffAt, termAt, termsIn}
+use Rattle.sums.specs.Steps.{finiteRows}
+use Rattle.sums.proofs.RowKeys.{zero-differ, zero-all}
+
+-- ---- words that are all 0
+
+module _ (ws : List ℕ) (at w : ℕ) where
+  pub not-zero : (k : ℕ) → k < w → (getD ws (at + k) 0 ≡ 0 → ⊥) → allZero (take w (drop at ws)) ≡ false
+  not-zero k h n = zero-differ (take w (drop at ws)) k (λ e. n (sym (getD-take w (drop at ws) k 0 h ∙ getD-drop at ws k 0) ∙ e))
+
+  pub zero-words : at + w ≤ length ws → ((k : ℕ) → k < w → getD ws (at + k) 0 ≡ 0) → allZero (take w (drop at ws)) ≡ true
+  zero-words room z =
+      let long : length (take w (drop at ws)) ≡ w = length-take-le w (drop at ws) (simp length-drop (omega arith)) in
+      zero-all (take w (drop at ws)) (λ k h. let b : k < w = omega arith in getD-take w (drop at ws) k 0 b ∙ getD-drop at ws k 0 ∙ z k b)
+
+-- ---- one row of the mean
+
+module _ (w i : ℕ) (ws : List ℕ) (cs : List Float) (sum : Float) {b : Bool} (e : b ≡ allZero (take w (drop (i * (2 * w)) ws))) where
+  no-x : noX w (keyAt (2 * w) ws i) ≡ b
+  no-x = ap allZero (take-take w (2 * w) (drop (i * (2 * w)) ws) (omega arith)) ∙ sym e
+
+  pub mean-added : {v : Complex64} → b ≡ true → v ≡ coeffAt cs i → add binary64 sum (v .re) ≡ addMean w sum (termAt (2 * w) ws cs i)
+  mean-added t q =
+      ap (λ (v : Complex64). add binary64 sum (v .re)) q
+      ∙ ap (λ (b : Bool). cond b (add binary64 sum (coeffAt cs i .re)) sum) (sym (no-x ∙ t))
+
+  pub mean-passed : b ≡ false → sum ≡ addMean w sum (termAt (2 * w) ws cs i)
+  mean-passed t = ap (λ (b : Bool). cond b (add binary64 sum (coeffAt cs i .re)) sum) (sym (no-x ∙ t))
+
+-- ---- finite coefficients
+
+tab-finite : (n : ℕ) (f : ℕ → Term) → ((j : ℕ) → j < n → finiteOf (f j .coeff) ≡ true) → allFinite (tab n f) ≡ true
+unfolding allFinite tab
+tab-finite zero f h = refl
+tab-finite (suc n) f h = λ k. h zero (suc-le-suc zero-le) k && tab-finite n (λ i. f (suc i)) (λ j l. h (suc j) (suc-le-suc l)) k
+
+tab-not-finite : (n : ℕ) (f : ℕ → Term) (j : ℕ) → j < n → finiteOf (f j .coeff) ≡ false → allFinite (tab n f) ≡ false
+unfolding allFinite tab
+tab-not-finite zero f j l h = absurd (not-suc-le-zero l)
+tab-not-finite (suc n) f zero l h = ap (λ (b : Bool). b && allFinite (tab n (λ i. f (suc i)))) h
+tab-not-finite (suc n) f (suc j) l h =
+    ap (λ (b : Bool). finiteOf (f zero .coeff) && b) (tab-not-finite n (λ i. f (suc i)) j (le-of-suc-le-suc l) h) ∙ and-false (finiteOf (f zero .coeff))
+
+pub finite-all : (n : ℕ) (cs : List Float) → ((j : ℕ) → j < n → finiteOf (coeffAt cs j) ≡ true) → finiteRows n cs ≡ true
+finite-all n cs h = tab-finite n (termAt 0 [] cs) h
+
+pub not-finite : (n : ℕ) (cs : List Float) (j : ℕ) → j < n → finiteOf (coeffAt cs j) ≡ false → finiteRows n cs ≡ false
+not-finite n cs j l h = tab-not-finite n (termAt 0 [] cs) j l h
+
+-- a row that is not there
+pub missing-finite : (n : ℕ) (cs : List Float) → length cs / 2 < n → finiteRows n cs ≡ false
+missing-finite n cs h =
+    let j : ℕ = length cs / 2 in
+    let past : length cs ≤ 2 * j + 1 = omega arith in
+    not-finite n cs j h (ap (λ (x : Float). isFinite (getD cs (2 * j) nan) && isFinite x) (List·getD-eq-default cs nan past) ∙ and-false (isFinite (getD cs (2 * j) nan)))
+
+same-finite : (n : ℕ) (f g : ℕ → Term) → ((i : ℕ) → f i .coeff ≡ g i .coeff) → allFinite (tab n f) ≡ allFinite (tab n g)
+unfolding allFinite tab
+same-finite zero f g e = refl
+same-finite (suc n) f g e = λ k. finiteOf (e zero k) && same-finite n (λ i. f (suc i)) (λ i. g (suc i)) (λ i. e (suc i)) k
+
+-- the words of a sum do not matter
+pub finite-terms : (s n : ℕ) (ws : List ℕ) (cs : List Float) → allFinite (termsIn s n ws cs) ≡ finiteRows n cs
+finite-terms s n ws cs = same-finite n (termAt s ws cs) (termAt 0 [] cs) (λ i. refl)

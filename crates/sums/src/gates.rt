@@ -1,0 +1,64 @@
+// A Clifford gate on every term.
+ghost use mathlib.Core.Path.{_≡_};
+ghost use mathlib.Core.List.{map};
+ghost use Prim.Native.Nat.{_*_, _≤_, _<_};
+ghost use Rattle.terms.specs.Term.{conjugated};
+ghost use Rattle.rows.specs.Rows.{termAt, termsIn, rowsIn, putKey, putCoeff, Stepped, Holds};
+use rows::row;
+use words::Gate;
+
+fn conjugate_row(
+    words: &mut [u64],
+    coeffs: &mut [f64],
+    w: usize,
+    i: usize,
+    gate: Gate,
+    a: usize,
+    b: usize,
+)
+    requires { ⌜ i < rowsIn w (now words) (now coeffs) ⌝ }
+    ensures { λ _. ⌜ (now (words .exit) ≡ putKey (2 * w) (now (words .entry)) i (conjugated w gate a b (termAt (2 * w) (now (words .entry)) (now (coeffs .entry)) i) .key))
+        × (now (coeffs .exit) ≡ putCoeff (now (coeffs .entry)) i (conjugated w gate a b (termAt (2 * w) (now (words .entry)) (now (coeffs .entry)) i) .coeff)) ⌝ }
+{
+    let quarters = words::rows::conjugate_row(words, w, i, gate, a, b);
+    let v = row::value_at(coeffs, i);
+    row::store_value(coeffs, i, v.turned(quarters));
+}
+
+fn conjugate_rows(
+    words: &mut [u64],
+    coeffs: &mut [f64],
+    w: usize,
+    n: usize,
+    gate: Gate,
+    a: usize,
+    b: usize,
+)
+    requires { ⌜ n ≤ rowsIn w (now words) (now coeffs) ⌝ }
+    ensures { λ _. ⌜ Holds (2 * w) n n (map (conjugated w gate a b) (termsIn (2 * w) n (now (words .entry)) (now (coeffs .entry))))
+        (now (words .entry)) (now (words .exit)) (now (coeffs .entry)) (now (coeffs .exit)) ⌝ }
+{
+    let mut i = 0;
+    while i < n {
+        conjugate_row(words, coeffs, w, i, gate, a, b);
+        i += 1;
+    }
+}
+
+// Takes each of the first n terms backward through a gate: its word, and its coefficient by the gate's phase.
+pub fn conjugate_all_backward_phased(
+    words: &mut [u64],
+    coeffs: &mut [f64],
+    w: usize,
+    n: usize,
+    gate: Gate,
+    a: usize,
+    b: usize,
+)
+    ensures { λ _. ⌜ Stepped w n n n (map (conjugated w gate a b) (termsIn (2 * w) n (now (words .entry)) (now (coeffs .entry)))) n
+        (now (words .entry)) (now (words .exit)) (now (coeffs .entry)) (now (coeffs .exit)) ⌝ }
+{
+    if n <= row::rows_in(words.len(), coeffs.len(), w) {
+        conjugate_rows(words, coeffs, w, n, gate, a, b);
+    }
+}

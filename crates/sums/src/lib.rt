@@ -1,0 +1,12 @@
+// A weighted Pauli sum in two lent buffers, the first n rows: its start, gates, truncation, mean.
+pub mod gates;
+mod lookup;
+pub mod mean;
+pub mod start;
+pub mod truncate;
+
+// What truncation leaves: how many terms, and the sum of the sizes dropped.
+pub struct Kept {
+    pub count: usize,
+    pub dropped: f64,
+}

@@ -1,0 +1,124 @@
+-- How many terms there are after a step: no more after truncation and merge, at most twice as many after a channel and a rotation. Assumes nothing.
+use mathlib.Core.Bool.{Bool, true, false, cond}
+use mathlib.Core.List.{List, [], _∷_, _++_, map}
+use Prim.Native.Nat.{ℕ, zero, suc, _+_, _*_, _≤_}
+use native.Mathlib.Omega.{arith}
+use lib.Dec.{ltb}
+use lib.ListN.{length, getD, length-append, length-set, length-map}
+use lib.Ieee.{Float}
+use Rattle.numbers.specs.Tests.{isZero}
+use Rattle.words.specs.Keys.{Key}
+use Rattle.terms.specs.declared.ChannelAction.{ChannelAction}
+use Rattle.terms.specs.declared.ChannelKind.{ChannelKind}
+use Rattle.terms.specs.declared.ChannelKind.the-variants.{Local, Depolarizing2q}
+use Rattle.terms.specs.declared.Found.{Found}
+use Rattle.terms.specs.declared.Found.the-variants.{At, Nothing}
+use Rattle.terms.specs.Lists.{foldl}
+use Rattle.terms.specs.Term.{Term, noTerm, isIn}
+use Rattle.terms.specs.Start.{share, coalesced, merged}
+use Rattle.terms.specs.Rotation.{scaledMet, turnedRow, appendedRows, rotated}
+use Rattle.terms.specs.Branch.{rowOf, branchBy, branchRow, branchTo}
+use Rattle.terms.specs.Channel.{isZLetter, insert, branch, channelBy, channeled}
+use Rattle.terms.specs.Truncation.{isSmall, keptOf}
+use Rattle.terms.proofs.DistinctLaws.{addTo-length}
+use Rattle.terms.proofs.BranchLaws.{appended-cases}
+
+-- steps that add at most one term each
+pub fold-count : (f : List Term → Term → List Term) → ((ts : List Term) (t : Term) → length (f ts t) ≤ length ts + 1) → (ts us : List Term) → length (foldl f us ts) ≤ length us + length ts
+unfolding foldl
+fold-count f one [] us = omega arith
+fold-count f one (t ∷ ts) us = omega (arith, fold-count f one ts (f us t), one us t)
+
+snoc-count : (b : Bool) (ts us : List Term) (t : Term) → length us ≤ length ts + 1 → length (cond b us (ts ++ (t ∷ []))) ≤ length ts + 1
+snoc-count true ts us t h = h
+snoc-count false ts us t h = omega (arith, length-append ts (t ∷ []))
+
+-- ---- truncation and the merge
+
+pub kept-count : (e : Float) (ts : List Term) → length (keptOf e ts) ≤ length ts
+unfolding keptOf
+kept-count e [] = omega arith
+kept-count e (t ∷ ts) = go (isSmall e t) (kept-count e ts)
+  where
+    go : (b : Bool) → length (keptOf e ts) ≤ length ts → length (cond b (keptOf e ts) (t ∷ keptOf e ts)) ≤ length (t ∷ ts)
+    go true h = omega arith
+    go false h = omega arith
+
+pub share-count : (ts : List Term) (t : Term) → length (share ts t) ≤ length ts + 1
+unfolding share
+share-count ts t = rw addTo-length (snoc-count (isIn (t .key) ts) ts ts _ (omega arith))
+
+pub coalesced-count : (ts : List Term) → length (coalesced ts) ≤ length ts
+coalesced-count ts = omega (arith, fold-count share share-count ts [])
+
+pub merged-count : (ts : List Term) → length (merged ts) ≤ length ts
+merged-count [] = omega arith
+merged-count (t ∷ []) = omega arith
+merged-count (t ∷ u ∷ ts) = coalesced-count (t ∷ u ∷ ts)
+
+-- ---- a channel
+
+pub insert-count : (ts : List Term) (t : Term) → length (insert ts t) ≤ length ts + 1
+unfolding insert
+insert-count ts t = snoc-count (isIn (t .key) ts) ts _ t (rw addTo-length (omega arith))
+
+pub branch-count : (w q : ℕ) (f : Float) (ts : List Term) (t : Term) → length (branch w q f ts t) ≤ length ts + 1
+branch-count w q f ts t = go (isZLetter w q (t .key)) _ (insert-count ts _)
+  where
+    go : (b : Bool) (us : List Term) → length us ≤ length ts + 1 → length (cond b us ts) ≤ length ts + 1
+    go true us h = h
+    go false us h = omega arith
+
+pub channeled-count : (w a b : ℕ) (c : ChannelAction) (ts : List Term) → length (channeled w a b c ts) ≤ 2 * length ts
+unfolding channeled
+channeled-count w a b c ts = by (c .kind)
+  where
+    branches : (z : Bool) → length (cond z ts (foldl (branch w a (c .«z_to_identity»)) ts ts)) ≤ 2 * length ts
+    branches true = omega arith
+    branches false = omega (arith, fold-count (branch w a (c .«z_to_identity»)) (branch-count w a (c .«z_to_identity»)) ts ts)
+
+    by : (k : ChannelKind) → length (channelBy k w a b c ts) ≤ 2 * length ts
+    by Local = rw length-map (branches (isZero (c .«z_to_identity»)))
+    by Depolarizing2q = rw length-map (omega arith)
+
+-- ---- a rotation
+
+-- no term lost and at most one more: what a row does in place
+abbrev pub Grows : List Term → List Term → Type 0
+Grows ts us = (length ts ≤ length us) × (length us ≤ length ts + 1)
+
+either : (b : Bool) (ts us vs : List Term) → Grows ts us → Grows ts vs → Grows ts (cond b us vs)
+either true ts us vs x y = x
+either false ts us vs x y = y
+
+module _ (met : Key → Bool) (partner : Key → Key) (sin cos : Float) where
+  appended-count : (old ts : List Term) → length (appendedRows met partner sin cos old ts) ≤ length ts
+  unfolding appendedRows
+  appended-count old [] = omega arith
+  appended-count old (t ∷ ts) =
+      let h = appended-count old ts in
+      appended-cases met partner sin cos (λ l. length (l ++ appendedRows met partner sin cos old ts) ≤ length (t ∷ ts)) old t (omega arith) (λ z e. omega arith)
+
+  pub rotated-count : (ts : List Term) → length (rotated met partner sin cos ts) ≤ 2 * length ts
+  unfolding rotated
+  rotated-count ts = go (isZero sin)
+    where
+      go : (z : Bool) → length (cond z (map (scaledMet met partner sin cos) ts) (map (turnedRow met partner sin cos ts) ts ++ appendedRows met partner sin cos ts ts)) ≤ 2 * length ts
+      go true = rw length-map (omega arith)
+      go false = simp (length-append, length-map) (omega (arith, appended-count ts ts))
+
+  branchBy-count : (i : ℕ) (ts : List Term) (f : Found) → Grows ts (branchBy met partner sin cos i ts f)
+  branchBy-count i ts (At j) = either (ltb i j) ts _ ts (simp length-set (omega arith)) (omega arith)
+  branchBy-count i ts Nothing = either (isZero cos) ts _ _ (simp length-set (omega arith)) (simp (length-append, length-set) (omega arith))
+
+  pub branchRow-count : (n i : ℕ) (ts : List Term) → Grows ts (branchRow met partner sin cos n i ts)
+  unfolding branchRow
+  branchRow-count n i ts = either (met (getD ts i noTerm .key)) ts _ ts (branchBy-count i ts (rowOf n (partner (getD ts i noTerm .key)) ts)) (omega arith)
+
+  pub branchTo-count : (n i : ℕ) (ts : List Term) → (length ts ≤ length (branchTo met partner sin cos n i ts)) × (length (branchTo met partner sin cos n i ts) ≤ length ts + i)
+  unfolding branchTo
+  branchTo-count n zero ts = omega arith
+  branchTo-count n (suc i) ts =
+      let h = branchTo-count n i ts in
+      let g = branchRow-count n i (branchTo met partner sin cos n i ts) in
+      omega arith
