@@ -98,7 +98,7 @@ module _ (w from to : ℕ) (ws : List ℕ) (cs : List Float) where
       ))
       (lt-or-le from to)
 
-rows-less : (s m n : ℕ) → n * s - m * s ≡ (n - m) * s
+pub rows-less : (s m n : ℕ) → n * s - m * s ≡ (n - m) * s
 rows-less s m n = rw (mul-comm n s, mul-comm m s, mul-comm (n - m) s) (sym (mul-sub s n m))
 
 -- m terms in n rows, and the rows past them cleared

@@ -1,0 +1,91 @@
+-- The hypotheses of demand 3 hold of tasks as they come: two that differ in the sign of zeros and in what stands outside the cone. Assumes nothing.
+use Prim.Native.Nat.{ℕ}
+use mathlib.Core.Path.{_≡_, refl}
+use mathlib.Core.Bool.{true, false}
+use mathlib.Core.List.{List, [], _∷_}
+use lib.Ieee.{Float, neg, add, mul, lt, le, eq, fits, ofBits}
+use Rattle.numbers.specs.Constants.{zero64, one64}
+use Rattle.words.specs.Keys.{bitOf, flipOf, bitAt, flipAt, allZero, sameKey}
+use Rattle.words.specs.Gates.{conjKey}
+use Rattle.words.specs.declared.Gate.{Gate}
+use Rattle.words.specs.declared.Gate.the-variants.{H, Cz}
+use Rattle.terms.specs.Lists.{foldl}
+use Rattle.terms.specs.Coefficient.{complex, turnedOf, sizeOf}
+use Rattle.terms.specs.Term.{term, find, conjugated, allFinite}
+use Rattle.terms.specs.Start.{countY, termOf}
+use Rattle.terms.specs.Rotation.{metBy, partnerBy, appendedRows, rotated}
+use Rattle.terms.specs.Truncation.{keptOf}
+use Rattle.terms.proofs.NearLaws.{none, more}
+use Rattle.turns.specs.declared.Op.{Op}
+use Rattle.turns.specs.declared.Op.the-variants.{Native, T, Rz, Barrier}
+use Rattle.turns.specs.Ops.{onWords, act}
+use Rattle.turns.specs.Turn.{going, outcome, checked, settle, ended, finish}
+use Rattle.turns.specs.Runs.{runs, markedRun, member, touches, coneOf, markCone}
+use Rattle.turns.specs.MarkedOps.{SameOp, chosen}
+use Rattle.runs.specs.Task.{Task, every, lettersBelow, question2, question3, question4, question5, question6}
+use Rattle.runs.specs.Outcome.{termsOf}
+use Rattle.runs.specs.LightCone.{Equal, asFull, asCone, Passes, Binary64Values, coneMarks, Agree, endAs, Demand}
+use Rattle.runs.proofs.Demand.{demand3}
+
+abbrev minusZero64 : Float
+minusZero64 = neg zero64
+
+-- three qubits and the observable X0,Z1
+abbrev task : Float → List Op → Task
+task e ops = record { qubits = 3; limits = record { epsilon = e; «max_terms» = 0; limit = 8 }; lines = record { key = 1 ∷ 2 ∷ []; weight = one64 } ∷ []; ops = ops }
+
+abbrev first : Task
+first = task zero64 (Native H 2 0 ∷ Native H 0 0 ∷ Native Cz 0 1 ∷ T 2 ∷ Rz 0 zero64 one64 ∷ [])
+
+abbrev second : Task
+second = task minusZero64 (Barrier ∷ Native H 0 0 ∷ Native Cz 0 1 ∷ Rz 0 minusZero64 one64 ∷ [])
+
+-- h and t on qubit 2 are outside the cone
+first-marks : coneMarks first ≡ false ∷ true ∷ true ∷ false ∷ true ∷ []
+unfolding markCone coneOf touches member lettersBelow bitAt bitOf
+first-marks = refl
+
+second-marks : coneMarks second ≡ false ∷ true ∷ true ∷ true ∷ []
+unfolding markCone coneOf touches member lettersBelow bitAt bitOf
+second-marks = refl
+
+first-passes : Passes first
+unfolding question2 question3 question4 question5 question6 every lettersBelow bitAt bitOf neg lt le eq ofBits
+first-passes asFull = refl
+first-passes asCone = refl
+
+second-passes : Passes second
+unfolding question2 question3 question4 question5 question6 every lettersBelow bitAt bitOf neg lt le eq ofBits
+second-passes asFull = refl
+second-passes asCone = refl
+
+first-values : Binary64Values first
+unfolding fits ofBits
+first-values = record { epsilon = tt; weights = (tt, tt); reals = (tt, (tt, (tt, (tt, ((tt, (tt, tt)), tt))))) }
+
+second-values : Binary64Values second
+unfolding fits neg ofBits
+second-values = record { epsilon = tt; weights = (tt, tt); reals = (tt, (tt, (tt, ((tt, (tt, tt)), tt)))) }
+
+same-gate : (g : Gate) (a b : ℕ) → SameOp Equal (Native g a b) (Native g a b)
+same-gate g a b = record { name = refl; targets = refl; reals = none }
+
+agree : Agree first second
+unfolding markCone coneOf touches member lettersBelow bitAt bitOf chosen neg eq ofBits
+agree = record {
+  qubits = refl;
+  observable = refl;
+  epsilon = refl;
+  maxTerms = refl;
+  limit = refl;
+  marked = more (same-gate H 0 0) (more (same-gate Cz 0 1) (more (record { name = refl; targets = refl; reals = more refl (more refl none) }) none));
+}
+
+pub example : Demand first second
+example = demand3 first second first-values second-values first-passes second-passes agree
+
+-- the first task's full run has mean 1 and peak 1, and so have the other three
+first-end : endAs asFull first ≡ going (outcome (term (0 ∷ 1 ∷ []) (complex one64 zero64) ∷ []) one64 [] 1 zero64)
+unfolding markedRun runs act onWords settle checked finish ended allFinite keptOf rotated appendedRows metBy partnerBy conjugated conjKey turnedOf
+    sizeOf foldl find sameKey allZero termsOf termOf countY bitAt bitOf flipAt flipOf add mul neg lt eq ofBits
+first-end = refl

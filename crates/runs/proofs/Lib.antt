@@ -1,0 +1,5 @@
+-- Laws of the runs.
+pub mod Demand
+pub mod ConeCases
+pub mod CoverLaws
+pub mod Cases

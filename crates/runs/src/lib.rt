@@ -1,0 +1,9 @@
+// The four runs of a sheet's values: full, cone, all and path, and the fold.
+
+// The runs by their names on a sheet.
+pub enum Run {
+    Full,
+    Cone,
+    All,
+    Path,
+}

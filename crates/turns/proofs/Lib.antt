@@ -1,0 +1,10 @@
+-- Laws of ops, turns and runs.
+pub mod ApplyLaws
+pub mod TurnLaws
+pub mod RunLaws
+pub mod EndLaws
+pub mod StartLaws
+pub mod MarkLaws
+pub mod ActLaws
+pub mod Alike
+pub mod Cone

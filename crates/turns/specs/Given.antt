@@ -1,0 +1,44 @@
+-- What a run starts from, and what is asked of it before it starts.
+use Prim.Native.Nat.{ℕ, _*_, _/_}
+use mathlib.Core.Bool.{Bool, _&&_}
+use mathlib.Core.List.{List, [], _∷_}
+use lib.Dec.{leb, ltb}
+use lib.ListN.{length}
+use lib.Ieee.{Float}
+use Rattle.numbers.specs.Constants.{one64}
+use Rattle.words.specs.Keys.{Key, flipAt, zAt, noLetters}
+use Rattle.terms.specs.Term.{Term}
+use Rattle.terms.specs.Start.{termOf, merged}
+use Rattle.rows.specs.Rows.{keyAt, rowsIn}
+use Rattle.sums.specs.Steps.{linesOf}
+use Rattle.turns.specs.declared.Limits.{Limits}
+use Rattle.turns.specs.declared.Op.{Op}
+use Rattle.turns.specs.declared.Start.{Start}
+use Rattle.turns.specs.declared.Start.the-variants.{Lines, Alone, Z}
+use Rattle.turns.specs.Turn.{Stage, ask, State, state, Outcome}
+use Rattle.turns.specs.Runs.{begin, markedRun}
+
+-- Z at one qubit
+abbrev pub zKey : ℕ → ℕ → Key
+zKey w q = flipAt (noLetters w) (zAt w q)
+
+-- the terms, and the tally, that a run starts from
+abbrev pub startState : ℕ → List ℕ → List Float → Start → State
+startState w keys weights (Lines k) = begin (merged (linesOf w keys weights k))
+startState w keys weights (Alone i) = begin (termOf w (keyAt (2 * w) keys i) one64 ∷ [])
+startState w keys weights (Z q t) = state (termOf w (zKey w q) one64 ∷ []) (t .peak) (t .discarded)
+
+-- the table has the lines, the words have the qubit, and the limit is not below the number of terms
+abbrev pub isGiven : ℕ → ℕ → List ℕ → List Float → Start → Bool
+isGiven w limit keys weights (Lines k) = leb k limit && (leb k (length keys / (2 * w)) && leb k (length weights))
+isGiven w limit keys weights (Alone i) = leb 1 limit && ltb i (length keys / (2 * w))
+isGiven w limit keys weights (Z q t) = leb 1 limit && (leb w 4 && ltb q (64 * w))
+
+-- "7. .. for twice limit rows"
+abbrev pub isHeld : ℕ → Limits → List ℕ → List Float → Start → ℕ → Bool
+isHeld w l keys weights start rows = isGiven w (l .limit) keys weights start && leb (2 * l .limit) rows
+
+-- the run that a public run is equal to: question 2 of what it starts from, question 7 of the rows, then the ops that the marks set
+abbrev pub startedRun : ℕ → Limits → List ℕ → List Float → Start → List Bool → List Op → ℕ → Stage Outcome
+startedRun w l keys weights start ms ops rows =
+    ask 2 (isGiven w (l .limit) keys weights start) (ask 7 (leb (2 * l .limit) rows) (markedRun w l ms ops (startState w keys weights start)))

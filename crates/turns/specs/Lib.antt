@@ -1,0 +1,7 @@
+pub mod Ops
+pub mod Turn
+pub mod Runs
+pub mod Given
+pub mod Told
+pub mod Marks
+pub mod MarkedOps

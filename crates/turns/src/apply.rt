@@ -1,0 +1,182 @@
+// What each op does to the terms in the rows.
+ghost use mathlib.Core.Path.{_≡_};
+ghost use mathlib.Core.Bool.{cond};
+ghost use mathlib.Core.List.{[], _∷_, map};
+ghost use Prim.Native.Nat.{_*_, _≤_};
+ghost use Rattle.numbers.specs.Constants.{sineT, cosineT};
+ghost use Rattle.words.specs.Gates.{hasTwoTargets};
+ghost use Rattle.terms.specs.declared.Axis.the-variants.{Z, Zz};
+ghost use Rattle.terms.specs.Term.{Distinct, conjugated};
+ghost use Rattle.rows.specs.Rows.{termsIn, rowsIn, Holds};
+ghost use Rattle.turns.specs.Ops.{turned, noisy, act};
+ghost use Rattle.turns.specs.Told.{Applied};
+use crate::Op;
+use crate::targets;
+use terms::NoiseChannel;
+use words::Gate;
+
+// A native gate.
+fn apply_gate(
+    words: &mut [u64],
+    coeffs: &mut [f64],
+    w: usize,
+    n: usize,
+    gate: Gate,
+    a: usize,
+    b: usize,
+) -> usize
+    requires { ⌜ (2 * n ≤ rowsIn w (now words) (now coeffs)) × Distinct (termsIn (2 * w) n (now words) (now coeffs)) ⌝ }
+    ensures { λ r. ⌜ Applied w n (cond (hasTwoTargets gate) (a ∷ b ∷ []) (a ∷ [])) (map (conjugated w gate a b) (termsIn (2 * w) n (now (words .entry)) (now (coeffs .entry)))) r
+        (now (words .entry)) (now (words .exit)) (now (coeffs .entry)) (now (coeffs .exit)) ⌝ }
+{
+    if targets::has_targets(targets::has_two_targets(gate), w, a, b) {
+        sums::gates::conjugate_all_backward_phased(words, coeffs, w, n, gate, a, b);
+    }
+    n
+}
+
+// t, tdg, rz and p.
+fn apply_z(
+    words: &mut [u64],
+    coeffs: &mut [f64],
+    w: usize,
+    n: usize,
+    q: usize,
+    sin: f64,
+    cos: f64,
+) -> usize
+    requires { ⌜ (2 * n ≤ rowsIn w (now words) (now coeffs)) × Distinct (termsIn (2 * w) n (now words) (now coeffs)) ⌝ }
+    ensures { λ r. ⌜ Applied w n (q ∷ []) (turned w (Z q) sin cos (termsIn (2 * w) n (now (words .entry)) (now (coeffs .entry)))) r
+        (now (words .entry)) (now (words .exit)) (now (coeffs .entry)) (now (coeffs .exit)) ⌝ }
+{
+    if targets::has_qubit(w, q) {
+        return branches::rotation::branch_z_rotation(words, coeffs, w, n, q, sin, cos);
+    }
+    n
+}
+
+// rzz.
+fn apply_zz(
+    words: &mut [u64],
+    coeffs: &mut [f64],
+    w: usize,
+    n: usize,
+    a: usize,
+    b: usize,
+    sin: f64,
+    cos: f64,
+) -> usize
+    requires { ⌜ (2 * n ≤ rowsIn w (now words) (now coeffs)) × Distinct (termsIn (2 * w) n (now words) (now coeffs)) ⌝ }
+    ensures { λ r. ⌜ Applied w n (a ∷ b ∷ []) (turned w (Zz a b) sin cos (termsIn (2 * w) n (now (words .entry)) (now (coeffs .entry)))) r
+        (now (words .entry)) (now (words .exit)) (now (coeffs .entry)) (now (coeffs .exit)) ⌝ }
+{
+    if targets::has_pair(w, a, b) {
+        return branches::rotation::branch_zz_rotation(words, coeffs, w, n, a, b, sin, cos);
+    }
+    n
+}
+
+// A channel at one target.
+fn apply_channel(
+    words: &mut [u64],
+    coeffs: &mut [f64],
+    w: usize,
+    n: usize,
+    q: usize,
+    channel: NoiseChannel,
+) -> usize
+    requires { ⌜ (2 * n ≤ rowsIn w (now words) (now coeffs)) × Distinct (termsIn (2 * w) n (now words) (now coeffs)) ⌝ }
+    ensures { λ r. ⌜ Applied w n (q ∷ []) (noisy w q 0 channel (termsIn (2 * w) n (now (words .entry)) (now (coeffs .entry)))) r
+        (now (words .entry)) (now (words .exit)) (now (coeffs .entry)) (now (coeffs .exit)) ⌝ }
+{
+    if targets::has_qubit(w, q) {
+        let action = terms::channels::channel_action(channel);
+        return branches::channels::apply_backward_channel(words, coeffs, w, n, action, q, 0);
+    }
+    n
+}
+
+// A channel at two targets.
+fn apply_channel2(
+    words: &mut [u64],
+    coeffs: &mut [f64],
+    w: usize,
+    n: usize,
+    a: usize,
+    b: usize,
+    channel: NoiseChannel,
+) -> usize
+    requires { ⌜ (2 * n ≤ rowsIn w (now words) (now coeffs)) × Distinct (termsIn (2 * w) n (now words) (now coeffs)) ⌝ }
+    ensures { λ r. ⌜ Applied w n (a ∷ b ∷ []) (noisy w a b channel (termsIn (2 * w) n (now (words .entry)) (now (coeffs .entry)))) r
+        (now (words .entry)) (now (words .exit)) (now (coeffs .entry)) (now (coeffs .exit)) ⌝ }
+{
+    if targets::has_pair(w, a, b) {
+        let action = terms::channels::channel_action(channel);
+        return branches::channels::apply_backward_channel(words, coeffs, w, n, action, a, b);
+    }
+    n
+}
+
+// t's sine and cosine, by their bits.
+fn sine_t() -> f64
+    ensures { λ r. ⌜ r ≡ sineT ⌝ }
+{
+    numbers::bits::of_bits(0x3fe6_a09e_667f_3bcc)
+}
+
+fn cosine_t() -> f64
+    ensures { λ r. ⌜ r ≡ cosineT ⌝ }
+{
+    numbers::bits::of_bits(0x3fe6_a09e_667f_3bcd)
+}
+
+// The first n terms through one op. The answer is the number of terms.
+pub(crate) fn apply_backward(
+    op: Op,
+    words: &mut [u64],
+    coeffs: &mut [f64],
+    w: usize,
+    n: usize,
+) -> usize
+    requires { ⌜ (2 * n ≤ rowsIn w (now words) (now coeffs)) × Distinct (termsIn (2 * w) n (now words) (now coeffs)) ⌝ }
+    ensures { λ r. ⌜ Holds (2 * w) (2 * n) r (act w op (termsIn (2 * w) n (now (words .entry)) (now (coeffs .entry))))
+        (now (words .entry)) (now (words .exit)) (now (coeffs .entry)) (now (coeffs .exit)) ⌝ }
+{
+    match op {
+        Op::Native(g, a, b) => apply_gate(words, coeffs, w, n, g, a, b),
+        Op::T(q) => apply_z(words, coeffs, w, n, q, sine_t(), cosine_t()),
+        Op::Tdg(q) => apply_z(words, coeffs, w, n, q, -sine_t(), cosine_t()),
+        Op::Rz(q, s, c) => apply_z(words, coeffs, w, n, q, s, c),
+        Op::P(q, s, c) => apply_z(words, coeffs, w, n, q, s, c),
+        Op::Rzz(a, b, s, c) => apply_zz(words, coeffs, w, n, a, b, s, c),
+        Op::Pauli(q, x, y, z) => apply_channel(
+            words,
+            coeffs,
+            w,
+            n,
+            q,
+            NoiseChannel::Pauli(x, y, z),
+        ),
+        Op::Depol(q, p) => apply_channel(words, coeffs, w, n, q, NoiseChannel::Depolarizing(p)),
+        Op::Damp(q, g) => apply_channel(words, coeffs, w, n, q, NoiseChannel::AmplitudeDamping(g)),
+        Op::Phase(q, g) => apply_channel(words, coeffs, w, n, q, NoiseChannel::PhaseDamping(g)),
+        Op::Thermal(q, d, p, e) => apply_channel(
+            words,
+            coeffs,
+            w,
+            n,
+            q,
+            NoiseChannel::ThermalRelaxation(d, p, e),
+        ),
+        Op::Depol2(a, b, p) => apply_channel2(
+            words,
+            coeffs,
+            w,
+            n,
+            a,
+            b,
+            NoiseChannel::TwoQubitDepolarizing(p),
+        ),
+        Op::Barrier => n,
+    }
+}

@@ -1,0 +1,246 @@
+// Which ops a run applies: the t count, and the marks of the runs.
+ghost use mathlib.Core.Path.{_≡_};
+ghost use mathlib.Core.Bool.{_||_, true, false, cond, not};
+ghost use mathlib.Core.List.{[], _∷_};
+ghost use Prim.Native.Nat.{min};
+ghost use lib.ListN.{getD, set, take};
+ghost use Rattle.turns.specs.Ops.{shapeOf, targets, isRotation, isBarrier, tCount};
+ghost use Rattle.turns.specs.Runs.{markAll, markPath};
+ghost use Rattle.turns.specs.Marks.{overlay, packed, listOf, meetsSet, joinSet, grownBy, coneMarks, letterIn, lettersIn};
+use crate::Op;
+use crate::targets;
+use words::keys::get_bit;
+
+// The targets of an op.
+enum Targets {
+    Nothing,
+    One(usize),
+    Two(usize, usize),
+}
+
+fn smaller(a: usize, b: usize) -> usize
+    ensures { λ r. ⌜ r ≡ min a b ⌝ }
+{
+    if a <= b { a } else { b }
+}
+
+fn is_rotation(op: Op) -> bool
+    ensures { λ r. ⌜ r ≡ isRotation (shapeOf op .sort) ⌝ }
+{
+    match op {
+        Op::Native(_, _, _) => false,
+        Op::T(_) => true,
+        Op::Tdg(_) => true,
+        Op::Rz(_, _, _) => true,
+        Op::P(_, _, _) => true,
+        Op::Rzz(_, _, _, _) => true,
+        Op::Pauli(_, _, _, _) => false,
+        Op::Depol(_, _) => false,
+        Op::Damp(_, _) => false,
+        Op::Phase(_, _) => false,
+        Op::Thermal(_, _, _, _) => false,
+        Op::Depol2(_, _, _) => false,
+        Op::Barrier => false,
+    }
+}
+
+// 1 where `on` is set.
+fn one_if(on: bool) -> usize
+    ensures { λ r. ⌜ r ≡ cond on 1 0 ⌝ }
+{
+    if on { 1 } else { 0 }
+}
+
+// The number of rotations in the first n ops.
+pub fn t_count(ops: [Op; 4096], n: usize) -> usize
+    ensures { λ r. ⌜ r ≡ tCount (take n ops) ⌝ }
+{
+    let end = smaller(n, ops.len());
+    let mut count = 0;
+    let mut i = 0;
+    while i < end {
+        let op = ops[i];
+        count += one_if(is_rotation(op));
+        i += 1;
+    }
+    count
+}
+
+// Sets mark i, if there is one.
+fn put_mark(marks: &mut [bool], i: usize, m: bool)
+    ensures { λ _. ⌜ now (marks .exit) ≡ set (now (marks .entry)) i m ⌝ }
+{
+    if i < marks.len() {
+        marks[i] = m;
+    }
+}
+
+// Marks every op, as far as the marks go.
+pub fn full_marks(ops: [Op; 4096], n: usize, marks: &mut [bool])
+    ensures { λ _. ⌜ now (marks .exit) ≡ overlay (markAll (take n ops)) (now (marks .entry)) ⌝ }
+{
+    let mut i = smaller(n, ops.len());
+    while 0 < i {
+        i -= 1;
+        put_mark(marks, i, true);
+    }
+}
+
+fn is_no_barrier(op: Op) -> bool
+    ensures { λ r. ⌜ r ≡ not (isBarrier (shapeOf op .sort)) ⌝ }
+{
+    match op {
+        Op::Native(_, _, _) => true,
+        Op::T(_) => true,
+        Op::Tdg(_) => true,
+        Op::Rz(_, _, _) => true,
+        Op::P(_, _, _) => true,
+        Op::Rzz(_, _, _, _) => true,
+        Op::Pauli(_, _, _, _) => true,
+        Op::Depol(_, _) => true,
+        Op::Damp(_, _) => true,
+        Op::Phase(_, _) => true,
+        Op::Thermal(_, _, _, _) => true,
+        Op::Depol2(_, _, _) => true,
+        Op::Barrier => false,
+    }
+}
+
+// Marks every op but barriers, as far as the marks go.
+pub fn path_marks(ops: [Op; 4096], n: usize, marks: &mut [bool])
+    ensures { λ _. ⌜ now (marks .exit) ≡ overlay (markPath (take n ops)) (now (marks .entry)) ⌝ }
+{
+    let mut i = smaller(n, ops.len());
+    while 0 < i {
+        i -= 1;
+        let op = ops[i];
+        put_mark(marks, i, is_no_barrier(op));
+    }
+}
+
+fn one_or_two(two: bool, a: usize, b: usize) -> Targets
+    ensures { λ r. ⌜ r ≡ packed (cond two (a ∷ b ∷ []) (a ∷ [])) ⌝ }
+{
+    if two {
+        Targets::Two(a, b)
+    } else {
+        Targets::One(a)
+    }
+}
+
+fn targets_of(op: Op) -> Targets
+    ensures { λ r. ⌜ r ≡ packed (targets op) ⌝ }
+{
+    match op {
+        Op::Native(gate, a, b) => one_or_two(targets::has_two_targets(gate), a, b),
+        Op::T(q) => Targets::One(q),
+        Op::Tdg(q) => Targets::One(q),
+        Op::Rz(q, _, _) => Targets::One(q),
+        Op::P(q, _, _) => Targets::One(q),
+        Op::Rzz(a, b, _, _) => Targets::Two(a, b),
+        Op::Pauli(q, _, _, _) => Targets::One(q),
+        Op::Depol(q, _) => Targets::One(q),
+        Op::Damp(q, _) => Targets::One(q),
+        Op::Phase(q, _) => Targets::One(q),
+        Op::Thermal(q, _, _, _) => Targets::One(q),
+        Op::Depol2(a, b, _) => Targets::Two(a, b),
+        Op::Barrier => Targets::Nothing,
+    }
+}
+
+fn has(s: [bool; 256], q: usize) -> bool
+    ensures { λ r. ⌜ r ≡ getD s q false ⌝ }
+{
+    if q < 256 {
+        return s[q];
+    }
+    false
+}
+
+fn with(s: [bool; 256], q: usize) -> [bool; 256]
+    ensures { λ r. ⌜ r ≡ set s q true ⌝ }
+{
+    if q < 256 {
+        let mut next = s;
+        next[q] = true;
+        return next;
+    }
+    s
+}
+
+fn either(a: bool, b: bool) -> bool
+    ensures { λ r. ⌜ r ≡ (a || b) ⌝ }
+{
+    if a { true } else { b }
+}
+
+// Whether one of the targets is in the set.
+fn meets(t: Targets, s: [bool; 256]) -> bool
+    ensures { λ r. ⌜ r ≡ meetsSet (listOf t) s ⌝ }
+{
+    match t {
+        Targets::Nothing => false,
+        Targets::One(a) => has(s, a),
+        Targets::Two(a, b) => either(has(s, a), has(s, b)),
+    }
+}
+
+// The set with the targets.
+fn joined(t: Targets, s: [bool; 256]) -> [bool; 256]
+    ensures { λ r. ⌜ r ≡ joinSet (listOf t) s ⌝ }
+{
+    match t {
+        Targets::Nothing => s,
+        Targets::One(a) => with(s, a),
+        Targets::Two(a, b) => with(with(s, b), a),
+    }
+}
+
+// The set with the targets, if one of them is in it.
+fn grown(t: Targets, s: [bool; 256]) -> [bool; 256]
+    ensures { λ r. ⌜ r ≡ grownBy (listOf t) s ⌝ }
+{
+    if meets(t, s) {
+        return joined(t, s);
+    }
+    s
+}
+
+fn has_letter(w: usize, key: &[u64], q: usize) -> bool
+    ensures { λ r. ⌜ r ≡ letterIn w (now (key .entry)) q ⌝ }
+{
+    if q / 64 < w {
+        return either(get_bit(key, 0, q), get_bit(key, w, q));
+    }
+    false
+}
+
+// The qubits at which the word has a letter.
+fn letters_in(w: usize, key: &[u64]) -> [bool; 256]
+    ensures { λ r. ⌜ r ≡ lettersIn w (now (key .entry)) ⌝ }
+{
+    let mut s = [false; 256];
+    let mut q = 0;
+    while q < 256 {
+        s[q] = has_letter(w, key, q);
+        q += 1;
+    }
+    s
+}
+
+// Marks the ops in the inverse light cone of a word, as far as the marks go: from the last op back, an op is marked if one of its targets
+// is in the set, and then its targets join the set.
+pub fn inverse_light_cone(ops: [Op; 4096], n: usize, w: usize, key: &[u64], marks: &mut [bool])
+    ensures { λ _. ⌜ now (marks .exit) ≡ overlay (coneMarks (lettersIn w (now (key .entry))) (take n ops)) (now (marks .entry)) ⌝ }
+{
+    let mut s = letters_in(w, key);
+    let mut i = smaller(n, ops.len());
+    while 0 < i {
+        i -= 1;
+        let op = ops[i];
+        let t = targets_of(op);
+        put_mark(marks, i, meets(t, s));
+        let next = grown(t, s);
+        s = next;
+    }
+}

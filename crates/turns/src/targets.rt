@@ -1,0 +1,53 @@
+// Whether the words of a row have an op's targets.
+ghost use mathlib.Core.Path.{_≡_};
+ghost use mathlib.Core.Bool.{cond};
+ghost use mathlib.Core.List.{[], _∷_};
+ghost use Rattle.words.specs.Gates.{hasTwoTargets};
+ghost use Rattle.turns.specs.Ops.{onWords};
+use words::Gate;
+
+pub(crate) fn has_two_targets(gate: Gate) -> bool
+    ensures { λ r. ⌜ r ≡ hasTwoTargets gate ⌝ }
+{
+    match gate {
+        Gate::Cx => true,
+        Gate::Cz => true,
+        Gate::Swap => true,
+        Gate::Id => false,
+        Gate::X => false,
+        Gate::Y => false,
+        Gate::Z => false,
+        Gate::H => false,
+        Gate::S => false,
+        Gate::Sdg => false,
+        Gate::Sx => false,
+        Gate::Sxdg => false,
+    }
+}
+
+pub(crate) fn has_qubit(w: usize, q: usize) -> bool
+    ensures { λ r. ⌜ r ≡ onWords w (q ∷ []) ⌝ }
+{
+    q / 64 < w
+}
+
+// Two targets, distinct.
+pub(crate) fn has_pair(w: usize, a: usize, b: usize) -> bool
+    ensures { λ r. ⌜ r ≡ onWords w (a ∷ b ∷ []) ⌝ }
+{
+    if has_qubit(w, a) {
+        if has_qubit(w, b) { a != b } else { false }
+    } else {
+        false
+    }
+}
+
+pub(crate) fn has_targets(two: bool, w: usize, a: usize, b: usize) -> bool
+    ensures { λ r. ⌜ r ≡ onWords w (cond two (a ∷ b ∷ []) (a ∷ [])) ⌝ }
+{
+    if two {
+        has_pair(w, a, b)
+    } else {
+        has_qubit(w, a)
+    }
+}

@@ -1,0 +1,167 @@
+// One turn of a run: an op, and what follows it.
+ghost use mathlib.Core.Path.{_≡_};
+ghost use mathlib.Core.Bool.{_&&_};
+ghost use Prim.Native.Nat.{_*_, _≤_, max};
+ghost use lib.Dec.{ltb};
+ghost use lib.ListN.{length};
+ghost use Rattle.terms.specs.Term.{Distinct};
+ghost use Rattle.rows.specs.Rows.{termsIn, rowsIn};
+ghost use Rattle.turns.specs.Turn.{bind, dropSmall, truncated, settle};
+ghost use Rattle.turns.specs.Runs.{turn, step};
+ghost use Rattle.turns.specs.Told.{stateIn, stageIn, countOf, turnedOf, fineIn, CheckedIn, Leaves, Ready, Tells};
+use crate::Limits;
+use crate::Op;
+use crate::Tally;
+use crate::Turned;
+use crate::apply;
+
+// The number of terms and the tally, after a drop.
+pub(crate) struct Left {
+    pub count: usize,
+    pub tally: Tally,
+}
+
+// Question 8 of the terms and the discarded weight.
+pub(crate) fn fine(coeffs: &[f64], n: usize, tally: Tally) -> bool
+    ensures { λ r. ⌜ r ≡ fineIn n tally (now (coeffs .entry)) ⌝ }
+{
+    let all = sums::mean::all_finite(coeffs, n);
+    let d = numbers::tests::is_finite(tally.discarded);
+    if all { d } else { false }
+}
+
+fn larger(a: usize, b: usize) -> usize
+    ensures { λ r. ⌜ r ≡ max a b ⌝ }
+{
+    if a <= b { b } else { a }
+}
+
+// The drop of small terms; their sum is added to the discarded weight.
+pub(crate) fn drop_small(
+    words: &mut [u64],
+    coeffs: &mut [f64],
+    w: usize,
+    n: usize,
+    tally: Tally,
+    epsilon: f64,
+) -> Left
+    requires { ⌜ n ≤ rowsIn w (now words) (now coeffs) ⌝ }
+    ensures { λ r. ⌜ Leaves w n r (now (words .entry)) (now (words .exit)) (now (coeffs .entry)) (now (coeffs .exit)) (dropSmall epsilon (stateIn w n tally (now (words .entry)) (now (coeffs .entry)))) ⌝ }
+{
+    let kept = sums::truncate::truncate(words, coeffs, w, n, epsilon);
+    Left {
+        count: kept.count,
+        tally: Tally {
+            peak: tally.peak,
+            discarded: tally.discarded + kept.dropped,
+        },
+    }
+}
+
+fn is_crowded(limits: Limits, n: usize) -> bool
+    ensures { λ r. ⌜ r ≡ ltb 0 (limits .«max_terms») && ltb (limits .«max_terms») n ⌝ }
+{
+    if 0 < limits.max_terms {
+        limits.max_terms < n
+    } else {
+        false
+    }
+}
+
+// Truncation, if there are more terms than max_terms.
+fn enforce(
+    limits: Limits,
+    words: &mut [u64],
+    coeffs: &mut [f64],
+    w: usize,
+    n: usize,
+    tally: Tally,
+) -> Left
+    requires { ⌜ n ≤ rowsIn w (now words) (now coeffs) ⌝ }
+    ensures { λ r. ⌜ Leaves w n r (now (words .entry)) (now (words .exit)) (now (coeffs .entry)) (now (coeffs .exit)) (truncated limits (stateIn w n tally (now (words .entry)) (now (coeffs .entry)))) ⌝ }
+{
+    if is_crowded(limits, n) {
+        return drop_small(words, coeffs, w, n, tally, limits.epsilon);
+    }
+    Left { count: n, tally }
+}
+
+// Questions 8 and 9, and the peak.
+fn checked(limits: Limits, coeffs: &[f64], n: usize, tally: Tally) -> Turned
+    ensures { λ r. ⌜ CheckedIn limits n tally (now (coeffs .entry)) r ⌝ }
+{
+    if fine(coeffs, n, tally) {
+        if limits.limit < n {
+            return Turned::Refused(9);
+        }
+        return Turned::Going(
+            n,
+            Tally {
+                peak: larger(tally.peak, n),
+                discarded: tally.discarded,
+            },
+        );
+    }
+    Turned::Refused(8)
+}
+
+// What follows an op.
+fn settle(
+    limits: Limits,
+    words: &mut [u64],
+    coeffs: &mut [f64],
+    w: usize,
+    n: usize,
+    tally: Tally,
+) -> Turned
+    requires { ⌜ (n ≤ 2 * limits .limit) × (2 * limits .limit ≤ rowsIn w (now words) (now coeffs)) × Distinct (termsIn (2 * w) n (now words) (now coeffs)) ⌝ }
+    ensures { λ r. ⌜ Tells w limits r (now (words .entry)) (now (words .exit)) (now (coeffs .entry)) (now (coeffs .exit)) (settle limits (stateIn w n tally (now (words .entry)) (now (coeffs .entry)))) ⌝ }
+{
+    if fine(coeffs, n, tally) {
+        let left = enforce(limits, words, coeffs, w, n, tally);
+        return checked(limits, coeffs, left.count, left.tally);
+    }
+    Turned::Refused(8)
+}
+
+// One op, and what follows it.
+fn turn(
+    op: Op,
+    limits: Limits,
+    words: &mut [u64],
+    coeffs: &mut [f64],
+    w: usize,
+    n: usize,
+    tally: Tally,
+) -> Turned
+    requires { ⌜ Ready w limits n (now words) (now coeffs) ⌝ }
+    ensures { λ r. ⌜ Tells w limits r (now (words .entry)) (now (words .exit)) (now (coeffs .entry)) (now (coeffs .exit)) (turn w limits op (stateIn w n tally (now (words .entry)) (now (coeffs .entry)))) ⌝ }
+{
+    let m = apply::apply_backward(op, words, coeffs, w, n);
+    settle(limits, words, coeffs, w, m, tally)
+}
+
+// The turn of one op, which is skipped without a mark and after a refusal.
+pub(crate) fn step(
+    mark: bool,
+    op: Op,
+    limits: Limits,
+    words: &mut [u64],
+    coeffs: &mut [f64],
+    w: usize,
+    at: Turned,
+) -> Turned
+    requires { ⌜ Ready w limits (countOf at) (now words) (now coeffs) ⌝ }
+    ensures { λ r. ⌜ Tells w limits r (now (words .entry)) (now (words .exit)) (now (coeffs .entry)) (now (coeffs .exit)) (bind (stageIn w at (now (words .entry)) (now (coeffs .entry))) (step w limits mark op)) ⌝ }
+{
+    match at {
+        Turned::Refused(q) => Turned::Refused(q),
+        Turned::Going(n, tally) => {
+            if mark {
+                turn(op, limits, words, coeffs, w, n, tally)
+            } else {
+                Turned::Going(n, tally)
+            }
+        }
+    }
+}
