@@ -42,7 +42,7 @@ use Rattle.runs.specs.LightCone.{IsBinary64, RealsAreBinary64, Binary64V
 use Rattle.runs.specs.LightCone.{SameEnd, sameRefusal, bothSucceed, endAs, marksAs, reached, MeetsIdentities, Demand, Demand3}
 
 -- ---- lists
-every-all : {A : Type 0} (p : A → Bool) (P : A → Type 0) (l : List A) → ((a : A) → p a ≡ true → P a) → every p l ≡ true → All P l
+pub every-all : {A : Type 0} (p : A → Bool) (P : A → Type 0) (l : List A) → ((a : A) → p a ≡ true → P a) → every p l ≡ true → All P l
 unfolding every
 every-all p P [] f h = tt
 every-all p P (a ∷ l) f h = let e = and-true (p a) (every p l) h in (f a (e .0), every-all p P l f (e .1))

@@ -3,3 +3,8 @@ pub mod Demand
 pub mod ConeCases
 pub mod CoverLaws
 pub mod Cases
+pub mod FoldLaws
+pub mod MarkRuns
+pub mod SumLaws
+pub mod AllRunLaws
+pub mod ConeCode

@@ -1,3 +1,5 @@
 pub mod Task
 pub mod Outcome
+pub mod Table
+pub mod Means
 pub mod LightCone

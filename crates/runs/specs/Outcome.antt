@@ -3,13 +3,15 @@ use Prim.Native.Nat.{ℕ, zero, suc, max}
 use mathlib.Core.Bool.{Bool, cond, _&&_}
 use mathlib.Core.List.{List, [], _∷_, _++_}
 use lib.Dec.{ltb, eqb}
-use lib.ListN.{length, replicate}
+use lib.ListN.{length}
 use lib.Ieee.{Float, binary64, add, mul}
 use Rattle.numbers.specs.Constants.{zero64, one64}
 use Rattle.numbers.specs.Tests.{isFinite, absOf}
-use Rattle.words.specs.Keys.{Key, flipAt, zAt, noLetters}
 use Rattle.terms.specs.Term.{Term}
 use Rattle.terms.specs.Start.{termOf, merged}
+use Rattle.turns.specs.declared.Op.{Op}
+use Rattle.turns.specs.Ops.{tCount}
+use Rattle.turns.specs.Given.{zKey}
 use Rattle.turns.specs.Turn.{Stage, refused, going, bind, ask, state, Outcome, outcome}
 use Rattle.turns.specs.Runs.{markAll, markPath, markCone, markedRun, begin}
 use Rattle.runs.specs.declared.Run.{Run}
@@ -39,9 +41,13 @@ addLine a weight o =
     let d = add binary64 (a .discarded) (mul binary64 (absOf weight) (o .discarded)) in
     outcome [] m [] (max (a .peak) (o .peak)) d
 
+-- the totals with the next line
+abbrev pub addNext : Task → List Bool → Line → Outcome → Stage Outcome
+addNext t ms l a = bind (alone t ms l) (λ o. going (addLine a (l .weight) o))
+
 unfoldable pub foldLines : Task → List Bool → List Line → Outcome → Stage Outcome
 foldLines t ms [] a = going a
-foldLines t ms (l ∷ ls) a = bind (alone t ms l) (λ o. foldLines t ms ls (addLine a (l .weight) o))
+foldLines t ms (l ∷ ls) a = bind (addNext t ms l a) (foldLines t ms ls)
 
 -- 8 is put "last on a fold's totals"
 abbrev pub askTotals : Outcome → Stage Outcome
@@ -60,9 +66,6 @@ abbrev pub sumRun : Task → List Bool → Stage Outcome
 sumRun t ms = orFold t ms (markedRun (width t) (t .limits) ms (t .ops) (begin (startOf (width t) (t .lines))))
 
 -- ---- "`all`: .. one Z mean per qubit"
-abbrev pub zKey : ℕ → ℕ → Key
-zKey w q = flipAt (noLetters w) (zAt w q)
-
 -- qubit q's run, from the tally so far: "`all` has one running discarded weight and the greatest peak", "the start count (0 in its place)"
 abbrev pub zRun : Task → ℕ → Outcome → Stage Outcome
 zRun t q a = markedRun (width t) (t .limits) (markAll (t .ops)) (t .ops) (state (termOf (width t) (zKey (width t) q) one64 ∷ []) (a .peak) (a .discarded))
@@ -91,3 +94,10 @@ outcomeOf Full t = sumRun t (markAll (t .ops))
 outcomeOf Cone t = sumRun t (markCone (observed t) (t .ops))
 outcomeOf Path t = sumRun t (markPath (t .ops))
 outcomeOf All t = allRuns t (t .qubits)
+
+-- "t_count: t, tdg, rz, p, rzz in the whole list; 0 for `path`"
+abbrev pub tCountOf : Run → List Op → ℕ
+tCountOf Full ops = tCount ops
+tCountOf Cone ops = tCount ops
+tCountOf All ops = tCount ops
+tCountOf Path ops = 0

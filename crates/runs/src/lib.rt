@@ -1,5 +1,11 @@
 // The four runs of a sheet's values: full, cone, all and path, and the fold.
 
+pub mod all;
+pub mod counts;
+mod fold;
+pub mod observable;
+mod width;
+
 // The runs by their names on a sheet.
 pub enum Run {
     Full,

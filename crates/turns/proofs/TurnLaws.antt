@@ -127,7 +127,7 @@ turned-count (refused n) = refl
 turned-count (going s) = refl
 
 -- no terms, in rows that held some
-emptied : {s R m : ℕ} {ts : List Term} {ws₀ ws : List ℕ} {cs₀ cs : List Float} → Holds s R m ts ws₀ ws cs₀ cs → Holds s R 0 [] ws₀ ws cs₀ cs
+pub emptied : {s R m : ℕ} {ts : List Term} {ws₀ ws : List ℕ} {cs₀ cs : List Float} → Holds s R m ts ws₀ ws cs₀ cs → Holds s R 0 [] ws₀ ws cs₀ cs
 unfolding tab
 emptied H = record { terms = refl; words-kept = H .words-kept; coeffs-kept = H .coeffs-kept; words-long = H .words-long; coeffs-long = H .coeffs-long }
 

@@ -1,0 +1,255 @@
+-- What the loop over the qubits has to know of `all`, and what the whole run leaves. Assumes nothing.
+use mathlib.Core.Path.{_≡_, refl, sym, ap, ap₂, _∙_, subst}
+use mathlib.Core.Bool.{Bool, true, false, cond, not, _&&_}
+use mathlib.Core.List.{List, [], _++_}
+use Prim.Native.Nat.{ℕ, zero, suc, _+_, _-_, _*_, _/_, _≤_, _<_, zero-le}
+use native.Mathlib.Nat.{le-refl}
+use native.Mathlib.Numerals.{add-one}
+use native.Mathlib.Omega.{arith}
+use lib.Dec.{leb}
+use lib.ListN.{length, set, take, drop, replicate, length-set, length-map, take-append-drop}
+use lib.Seq.{take-suc-set, drop-set-lt}
+use lib.Ieee.{Float}
+use borrow.Author.Tests.{le-leb, lt-leb, lt-ltb, leb-true, leb-false, not-true, not-false}
+use Rattle.numbers.specs.Constants.{zero64}
+use Rattle.words.specs.Keys.{widthOf}
+use Rattle.terms.specs.Lists.{tab}
+use Rattle.terms.specs.Term.{Term}
+use Rattle.terms.proofs.CaseLaws.{and-true}
+use Rattle.rows.specs.Rows.{rowsIn, wordsWith, coeffsWith, Stepped, Holds}
+use Rattle.rows.specs.Cleared.{filled, Cleared}
+use Rattle.rows.proofs.RowLaws.{drop-more}
+use Rattle.rows.proofs.HoldLaws.{hold-trans}
+use Rattle.rows.proofs.StepLaws.{held-rows}
+use Rattle.rows.proofs.ClearLaws.{stepped-cleared}
+use Rattle.turns.specs.declared.Limits.{Limits}
+use Rattle.turns.specs.declared.Op.{Op}
+use Rattle.turns.specs.declared.Tally.{Tally}
+use Rattle.turns.specs.declared.Ending.{Ending}
+use Rattle.turns.specs.declared.Ending.the-variants.{Done, Failed}
+use Rattle.turns.specs.declared.Start.the-variants.{Z}
+use Rattle.turns.specs.Turn.{Stage, refused, going, bind, ask, Outcome, outcome}
+use Rattle.turns.specs.Runs.{markAll, markedRun}
+use Rattle.turns.specs.Told.{endingOf, Ran}
+use Rattle.turns.specs.Given.{isGiven, isHeld, startedRun}
+use Rattle.turns.specs.Marks.{overlay}
+use Rattle.turns.proofs.RunLaws.{bind-same}
+use Rattle.runs.specs.Outcome.{nothingYet, addZ, allRuns}
+use Rattle.runs.specs.Means.{allTask, fitsAll, roomAll, allHeld, allAsked, meansOf, AllRan, earlyAll, zState, zStep, allTo, AllReady, Answers, allIn, Passes}
+use Rattle.runs.specs.Means.{meanAdded, meansWith, Added, clearedMeans, AllLeaves}
+use Rattle.runs.proofs.MarkRuns.{marked-overlay}
+
+-- ---- what is asked before the first run
+
+half : (n r : ℕ) → leb n (r / 2) ≡ leb (2 * n) r
+half n r = go (leb n (r / 2)) refl
+  where
+    go : (b : Bool) → leb n (r / 2) ≡ b → b ≡ leb (2 * n) r
+    go true e = let h = leb-true n (r / 2) e in sym (le-leb (2 * n) r (omega arith))
+    go false e = let h = leb-false n (r / 2) e in sym (lt-leb (2 * n) r (omega arith))
+
+module _ (qubits : ℕ) (l : Limits) (rows places : ℕ) {a : Bool} (ea : a ≡ fitsAll qubits l) where
+  pub early-2 : not a ≡ true → 2 ≡ earlyAll qubits l rows places
+  early-2 h = sym (ap (λ (f : Bool). cond f (cond (roomAll qubits l rows places) 0 7) 2) (sym ea ∙ not-true a h))
+
+  module _ {b : Bool} (ha : not a ≡ false) (eb : b ≡ leb (l .limit) (rows / 2) && leb qubits places) where
+    early-on : cond b 0 7 ≡ earlyAll qubits l rows places
+    early-on =
+        ap (λ (r : Bool). cond r 0 7) (eb ∙ ap (λ (x : Bool). x && leb qubits places) (half (l .limit) rows))
+        ∙ sym (ap (λ (f : Bool). cond f (cond (roomAll qubits l rows places) 0 7) 2) (sym ea ∙ not-false a ha))
+
+    pub early-7 : not b ≡ true → 7 ≡ earlyAll qubits l rows places
+    early-7 h = sym (ap (λ (r : Bool). cond r 0 7) (not-true b h)) ∙ early-on
+
+    pub early-0 : not b ≡ false → 0 ≡ earlyAll qubits l rows places
+    early-0 h = sym (ap (λ (r : Bool). cond r 0 7) (not-false b h)) ∙ early-on
+
+-- ---- one qubit's run
+
+hold-none : (s R : ℕ) (ws : List ℕ) (cs : List Float) → Holds s R 0 [] ws ws cs cs
+unfolding tab
+hold-none s R ws cs = record { terms = refl; words-kept = refl; coeffs-kept = refl; words-long = refl; coeffs-long = refl }
+
+hold-less : {s R m : ℕ} {ts : List Term} {ws₀ ws : List ℕ} {cs₀ cs : List Float} → Holds s R m ts ws₀ ws cs₀ cs → Holds s R 0 [] ws₀ ws cs₀ cs
+unfolding tab
+hold-less H = record { terms = refl; words-kept = H .words-kept; coeffs-kept = H .coeffs-kept; words-long = H .words-long; coeffs-long = H .coeffs-long }
+
+-- a run's tally, as an outcome
+abbrev tallied : Tally → Outcome
+tallied t = outcome [] zero64 [] (t .peak) (t .discarded)
+
+pub z-answers : (w : ℕ) (l : Limits) (marks : List Bool) (ops : List Op) (q : ℕ) (t : Tally) (keys : List ℕ) (weights : List Float) {r : Ending} {ws₀ ws : List ℕ} {cs₀ cs : List Float}
+    → 1 ≤ l .limit → w ≤ 4 → q < 64 * w → 2 * l .limit ≤ rowsIn w ws₀ cs₀
+    → Ran w (isHeld w l keys weights (Z q t) (rowsIn w ws₀ cs₀)) (startedRun w l keys weights (Z q t) marks ops (rowsIn w ws₀ cs₀)) r ws₀ ws cs₀ cs
+    → Answers w r ws₀ ws cs₀ cs (markedRun w l marks ops (zState w q (tallied t)))
+z-answers w l marks ops q t keys weights {r} {ws₀} {ws} {cs₀} {cs} some narrow low room R =
+    let run : Stage Outcome = markedRun w l marks ops (zState w q (tallied t)) in
+    let g : isGiven w (l .limit) keys weights (Z q t) ≡ true =
+    λ k. le-leb 1 (l .limit) some k && (le-leb w 4 narrow k && lt-ltb q (64 * w) low k) in
+    let h : leb (2 * l .limit) (rowsIn w ws₀ cs₀) ≡ true = le-leb (2 * l .limit) (rowsIn w ws₀ cs₀) room in
+    let same : startedRun w l keys weights (Z q t) marks ops (rowsIn w ws₀ cs₀) ≡ run = λ k. ask 2 (g k) (ask 7 (h k) run) in
+    record { answer = R .answer ∙ ap endingOf same; rows = hold-less (R .rows (λ k. g k && h k)) }
+
+pub added-failed : (q e : ℕ) (ms : List Float) (end : Ending) → end ≡ Failed e → Added q ms ms end (Failed e)
+added-failed q e ms end h = rw h (record { answer = refl; means = refl })
+
+pub added-done : (q n : ℕ) (x : Float) (t : Tally) (ms : List Float) (end : Ending) → end ≡ Done x n t → Added q ms (set ms q x) end (Done zero64 0 t)
+added-done q n x t ms end h = rw h (record { answer = refl; means = refl })
+
+-- ---- one qubit's turn
+
+module _ (w : ℕ) (l : Limits) (marks : List Bool) (ops : List Op) (q : ℕ) (at : Ending) where
+  pub step-failed : (e : ℕ) (ws : List ℕ) (cs ms : List Float) → at ≡ Failed e → Passes w (q + 1) (Failed e) ws ws cs cs ms ms (bind (allIn q at ms) (zStep w l marks ops q))
+  step-failed e ws cs ms h = rw h (record { answer = refl; told = refl; rows = hold-none (2 * w) (rowsIn w ws cs) ws cs; kept = refl; long = refl })
+
+  pub step-done : (n : ℕ) (x : Float) (t : Tally) {end r : Ending} {ws₀ ws : List ℕ} {cs₀ cs m₀ m : List Float} → at ≡ Done x n t → q < length m₀
+      → Answers w end ws₀ ws cs₀ cs (markedRun w l marks ops (zState w q (tallied t))) → Added q m₀ m end r
+      → Passes w (q + 1) r ws₀ ws cs₀ cs m₀ m (bind (allIn q at m₀) (zStep w l marks ops q))
+  step-done n x t {end} {r} {ws₀} {ws} {cs₀} {cs} {m₀} {m} h inside A D = rw h (record {
+    answer = answer (markedRun w l marks ops (zState w q (tallied t))) (A .answer);
+    told = told (markedRun w l marks ops (zState w q (tallied t))) (A .answer);
+    rows = A .rows;
+    kept = kept end (D .means);
+    long = long end (D .means);
+  })
+    where
+      before : Outcome
+      before = outcome [] zero64 (take q m₀) (t .peak) (t .discarded)
+
+      answer : (run : Stage Outcome) → end ≡ endingOf run → r ≡ endingOf (bind run (λ o. going (addZ before o)))
+      answer (refused k) e = D .answer ∙ ap meanAdded e
+      answer (going o) e = D .answer ∙ ap meanAdded e
+
+      told : (run : Stage Outcome) → end ≡ endingOf run → allIn (q + 1) r m ≡ bind run (λ o. going (addZ before o))
+      told (refused k) e = ap (λ (z : Ending). allIn (q + 1) z m) (D .answer ∙ ap meanAdded e)
+      told (going o) e =
+          ap₂ (allIn (q + 1)) (D .answer ∙ ap meanAdded e) (D .means ∙ ap (λ (z : Ending). meansWith q z m₀) e)
+          ∙ ap (λ (k : List Float). going (outcome [] zero64 k (o .peak) (o .discarded)))
+          (ap (λ (k : ℕ). take k (set m₀ q (o .mean))) (add-one q) ∙ take-suc-set m₀ q (o .mean) inside)
+
+      kept : (e : Ending) → m ≡ meansWith q e m₀ → drop (q + 1) m ≡ drop (q + 1) m₀
+      kept (Failed k) d = ap (drop (q + 1)) d
+      kept (Done y k u) d = ap (drop (q + 1)) d ∙ drop-set-lt (q + 1) m₀ q y (omega arith)
+
+      long : (e : Ending) → m ≡ meansWith q e m₀ → length m ≡ length m₀
+      long (Failed k) d = ap length d
+      long (Done y k u) d = ap length d ∙ length-set m₀ q y
+
+-- ---- the loop
+
+module _ (w : ℕ) (l : Limits) (marks : List Bool) (ops : List Op) where
+  pub all-start : (at : Ending) (ws : List ℕ) (cs ms : List Float) → at ≡ endingOf (going nothingYet) → Passes w 0 at ws ws cs cs ms ms (allTo w l marks ops 0)
+  unfolding allTo
+  all-start at ws cs ms e = record { answer = e; told = ap (λ (a : Ending). allIn 0 a ms) e; rows = hold-none (2 * w) (rowsIn w ws cs) ws cs; kept = refl; long = refl }
+
+  pub all-turn : {q : ℕ} {at r : Ending} {ws₀ ws ws′ : List ℕ} {cs₀ cs cs′ m₀ m m′ : List Float} → Passes w q at ws₀ ws cs₀ cs m₀ m (allTo w l marks ops q)
+      → Passes w (q + 1) r ws ws′ cs cs′ m m′ (bind (allIn q at m) (zStep w l marks ops q)) → Passes w (q + 1) r ws₀ ws′ cs₀ cs′ m₀ m′ (allTo w l marks ops (q + 1))
+  unfolding allTo
+  all-turn {q} {at} {r} {ws₀} {ws} {ws′} {cs₀} {cs} {cs′} {m₀} {m} {m′} P U =
+      let same : bind (allIn q at m) (zStep w l marks ops q) ≡ allTo w l marks ops (q + 1) =
+      ap (λ (a : Stage Outcome). bind a (zStep w l marks ops q)) (P .told) ∙ ap (allTo w l marks ops) (sym (add-one q)) in
+      record {
+        answer = U .answer ∙ ap endingOf same;
+        told = U .told ∙ same;
+        rows = hold-trans (P .rows) (subst (λ (R : ℕ). Holds (2 * w) R 0 [] ws ws′ cs cs′) (held-rows w (P .rows)) (U .rows));
+        kept = U .kept ∙ drop-more q (q + 1) m m₀ (omega arith) (P .kept);
+        long = U .long ∙ P .long;
+      }
+
+pub all-ready : {w k q : ℕ} {l : Limits} {at : Ending} {ws₀ ws : List ℕ} {cs₀ cs m₀ m : List Float} {run : Stage Outcome} → AllReady w k l ws₀ cs₀ m₀ → Passes w q at ws₀ ws cs₀ cs m₀ m run → q < k
+    → AllReady w (q + 1) l ws cs m
+all-ready {w} {k} {q} {l} A P h = record {
+  some = A .some;
+  narrow = A .narrow;
+  wide = let b = A .wide in omega arith;
+  room = rw (held-rows w (P .rows)) (A .room);
+  places = let b = A .places in let e = P .long in omega arith;
+}
+
+-- ---- the memory that all runs leave
+
+pub refused-means : (n e : ℕ) (at : Ending) (ms ms′ : List Float) → at ≡ Failed e → ms′ ≡ filled zero64 0 n ms → ms′ ≡ clearedMeans n at ms
+refused-means n e at ms ms′ h c = rw h c
+
+means-left : (n : ℕ) (at : Ending) (m₀ m m′ : List Float) → drop n m ≡ drop n m₀ → m′ ≡ clearedMeans n at m → m′ ≡ meansOf n (allIn n at m) ++ drop n m₀
+unfolding filled
+means-left n (Failed e) m₀ m m′ d c = let z : n - 0 ≡ n = omega arith in c ∙ (λ k. replicate (z k) zero64 ++ d k)
+means-left n (Done x j t) m₀ m m′ d c = c ∙ sym (take-append-drop n m) ∙ ap (λ (r : List Float). take n m ++ r) d
+
+pub all-leaves : (w n : ℕ) {R : ℕ} {at : Ending} {ws₀ ws ws′ : List ℕ} {cs₀ cs cs′ m₀ m m′ : List Float} {run : Stage Outcome} → Passes w n at ws₀ ws cs₀ cs m₀ m run → R ≡ rowsIn w ws₀ cs₀
+    → Cleared w 0 R ws ws′ cs cs′ → m′ ≡ clearedMeans n at m → AllLeaves w n at ws₀ ws′ cs₀ cs′ m₀ m′ run
+all-leaves w n {R} {at} {ws₀} {ws} {ws′} {cs₀} {cs} {cs′} {m₀} {m} {m′} {run} P e C c =
+    let rows : ℕ = rowsIn w ws₀ cs₀ in
+    let S : Stepped w rows rows 0 [] 0 ws₀ ws′ cs₀ cs′ = stepped-cleared w rows (P .rows) 0 zero-le (le-refl rows) (subst (λ (k : ℕ). Cleared w 0 k ws ws′ cs cs′) e C) in
+    let full : leb rows rows ≡ true = le-leb rows rows (le-refl rows) in
+    record {
+      answer = P .answer;
+      words = S .words ∙ ap (λ (b : Bool). cond b (wordsWith w rows [] ws₀) ws₀) full;
+      coeffs = S .coeffs ∙ ap (λ (b : Bool). cond b (coeffsWith rows [] cs₀) cs₀) full;
+      means = means-left n at m₀ m m′ (P .kept) c ∙ ap (λ (s : Stage Outcome). meansOf n s ++ drop n m₀) (P .told);
+    }
+
+-- ---- the whole run
+
+-- marks of all ops, written over others
+all-marks : (qubits : ℕ) (l : Limits) (ops : List Op) (over : List Bool) (k : ℕ) → length ops ≤ length over
+    → allTo (widthOf qubits) l (overlay (markAll ops) over) ops k ≡ allRuns (allTask qubits l ops) k
+unfolding allTo allRuns
+all-marks qubits l ops over zero h = refl
+all-marks qubits l ops over (suc k) h =
+    let w : ℕ = widthOf qubits in
+    ap (λ (s : Stage Outcome). bind s (zStep w l (overlay (markAll ops) over) ops k)) (all-marks qubits l ops over k h)
+    ∙ bind-same (allRuns (allTask qubits l ops) k) (zStep w l (overlay (markAll ops) over) ops k) (zStep w l (markAll ops) ops k)
+    (λ a. ap (λ (s : Stage Outcome). bind s (λ o. going (addZ a o))) (marked-overlay w l (markAll ops) over ops (zState w k a) (length-map ops (λ op. true)) h))
+
+zero-number : (f r : Bool) {n : ℕ} → n ≡ cond f (cond r 0 7) 2 → n ≤ 0 → (f ≡ true) × (r ≡ true)
+zero-number true true e h = (refl, refl)
+zero-number true false e h = absurd (omega arith)
+zero-number false r e h = absurd (omega arith)
+
+module _ (qubits : ℕ) (l : Limits) (ops : List Op) (ws : List ℕ) (cs ms : List Float) {w R number : ℕ} (ew : w ≡ widthOf qubits) (er : R ≡ rowsIn w ws cs)
+    (en : number ≡ earlyAll qubits l R (length ms)) where
+  abbrev rows : ℕ
+  rows = rowsIn (widthOf qubits) ws cs
+
+  abbrev Told : Bool → Bool → Ending → List ℕ → List Float → List Float → Type 0
+  Told f r end ws′ cs′ ms′ = AllRan qubits (f && r) (ask 2 f (ask 7 r (allRuns (allTask qubits l ops) qubits))) end ws ws′ cs cs′ ms ms′
+
+  asked : number ≡ earlyAll qubits l rows (length ms)
+  asked = en ∙ ap (λ (x : ℕ). earlyAll qubits l x (length ms)) (er ∙ ap (λ (v : ℕ). rowsIn v ws cs) ew)
+
+  pub all-refused : 0 < number → AllRan qubits (allHeld qubits l rows (length ms)) (allAsked qubits l ops rows (length ms)) (Failed number) ws ws cs cs ms ms
+  all-refused h = go (fitsAll qubits l) (roomAll qubits l rows (length ms)) asked
+    where
+      go : (f r : Bool) → number ≡ cond f (cond r 0 7) 2 → Told f r (Failed number) ws cs ms
+      go true true e = absurd (omega arith)
+      go true false e = record { answer = ap Failed e; words = refl; coeffs = refl; means = refl }
+      go false r e = record { answer = ap Failed e; words = refl; coeffs = refl; means = refl }
+
+  pub all-given : number ≤ 0 → AllReady w qubits l ws cs ms
+  all-given h =
+      let z = zero-number (fitsAll qubits l) (roomAll qubits l rows (length ms)) asked h in
+      let f = and-true (leb 1 (l .limit)) (leb qubits 256) (z .0) in
+      let r = and-true (leb (2 * l .limit) rows) (leb qubits (length ms)) (z .1) in
+      let few = leb-true qubits 256 (f .1) in
+      record {
+        some = leb-true 1 (l .limit) (f .0);
+        narrow = omega arith;
+        wide = omega arith;
+        room = subst (λ (v : ℕ). 2 * l .limit ≤ rowsIn v ws cs) (sym ew) (leb-true (2 * l .limit) rows (r .0));
+        places = leb-true qubits (length ms) (r .1);
+      }
+
+  pub all-on : (over : List Bool) {marks : List Bool} {end : Ending} {ws′ : List ℕ} {cs′ ms′ : List Float} → number ≤ 0 → length ops ≤ length over → marks ≡ overlay (markAll ops) over
+      → AllLeaves w qubits end ws ws′ cs cs′ ms ms′ (allTo w l marks ops qubits)
+      → AllRan qubits (allHeld qubits l rows (length ms)) (allAsked qubits l ops rows (length ms)) end ws ws′ cs cs′ ms ms′
+  all-on over {marks} {end} {ws′} {cs′} {ms′} h long em A =
+      let z = zero-number (fitsAll qubits l) (roomAll qubits l rows (length ms)) asked h in
+      let run : Stage Outcome = allRuns (allTask qubits l ops) qubits in
+      let same : allTo w l marks ops qubits ≡ run = (λ k. allTo (ew k) l (em k) ops qubits) ∙ all-marks qubits l ops over qubits long in
+      let B : AllLeaves (widthOf qubits) qubits end ws ws′ cs cs′ ms ms′ run =
+      subst (λ (s : Stage Outcome). AllLeaves (widthOf qubits) qubits end ws ws′ cs cs′ ms ms′ s) same
+      (subst (λ (v : ℕ). AllLeaves v qubits end ws ws′ cs cs′ ms ms′ (allTo w l marks ops qubits)) ew A) in
+      subst (λ (f : Bool). Told f (roomAll qubits l rows (length ms)) end ws′ cs′ ms′) (sym (z .0))
+      (subst (λ (r : Bool). Told true r end ws′ cs′ ms′) (sym (z .1))
+      (record { answer = B .answer; words = B .words; coeffs = B .coeffs; means = B .means }))

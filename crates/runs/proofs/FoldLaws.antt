@@ -1,0 +1,169 @@
+-- What the fold has to know of its definition. Assumes nothing.
+use mathlib.Core.Path.{_≡_, refl, sym, ap, _∙_, subst, subst⁻¹}
+use mathlib.Core.Bool.{Bool, true, false, cond, _&&_}
+use mathlib.Core.List.{List, [], _∷_, _++_}
+use Prim.Native.Nat.{ℕ, zero, suc, _+_, _*_, _/_, _≤_, _<_, max}
+use native.Mathlib.Nat.{le-refl, le-trans}
+use native.Mathlib.Numerals.{add-one}
+use native.Mathlib.Omega.{arith}
+use lib.Dec.{leb, ltb}
+use lib.ListN.{length, getD}
+use lib.Ieee.{Float, nan, binary64, add, mul}
+use borrow.Author.Tests.{le-leb, lt-ltb, leb-true}
+use Rattle.numbers.specs.Constants.{one64}
+use Rattle.numbers.specs.Tests.{isFinite, absOf}
+use Rattle.words.specs.Keys.{widthOf}
+use Rattle.terms.specs.Lists.{tab}
+use Rattle.terms.specs.Start.{termOf}
+use Rattle.terms.proofs.CaseLaws.{and-true}
+use Rattle.terms.proofs.ListLaws.{tab-snoc}
+use Rattle.rows.specs.Rows.{rowsIn, Stepped, Holds}
+use Rattle.rows.specs.Cleared.{Cleared}
+use Rattle.rows.proofs.HoldLaws.{hold-start, hold-trans}
+use Rattle.rows.proofs.StepLaws.{held-rows}
+use Rattle.rows.proofs.ClearLaws.{stepped-cleared}
+use Rattle.turns.specs.declared.Ending.{Ending}
+use Rattle.turns.specs.declared.Ending.the-variants.{Done, Failed}
+use Rattle.turns.specs.declared.Limits.{Limits}
+use Rattle.turns.specs.declared.Op.{Op}
+use Rattle.turns.specs.declared.Start.the-variants.{Lines, Alone}
+use Rattle.turns.specs.declared.Tally.{Tally}
+use Rattle.turns.specs.Turn.{Stage, refused, going, bind, ask, Outcome, outcome}
+use Rattle.turns.specs.Runs.{markedRun, begin}
+use Rattle.turns.specs.Given.{isGiven, isHeld, startedRun, startState}
+use Rattle.turns.specs.Told.{tally, endingOf, leftBy, Ran}
+use Rattle.turns.proofs.RunLaws.{bind-same, bind-bind, bind-going}
+use Rattle.turns.proofs.TurnLaws.{emptied}
+use Rattle.runs.specs.declared.fold.Folded.{Folded}
+use Rattle.runs.specs.declared.fold.Folded.the-variants.{Ended, Held}
+use Rattle.runs.specs.Task.{Line, Task}
+use Rattle.runs.specs.Outcome.{nothingYet, alone, addLine, addNext, foldLines, askTotals, folded}
+use Rattle.runs.specs.Table.{lineAt, taskIn, heldIn, added, FoldReady, Totals, Folds}
+
+-- ---- one line
+
+added-is : (m : Float) (t : Tally) (weight : Float) (s : Stage Outcome)
+    → heldIn (added m t weight (endingOf s)) ≡ bind s (λ o. going (addLine (outcome [] m [] (t .peak) (t .discarded)) weight o))
+added-is m t weight (refused n) = refl
+added-is m t weight (going o) = refl
+
+module _ (m : Float) (t : Tally) (weight : Float) (end : Ending) where
+  pub end-refused : (n : ℕ) → end ≡ Failed n → Ended n ≡ added m t weight end
+  end-refused n e = sym (ap (added m t weight) e)
+
+  pub end-added : (x : Float) (n : ℕ) (u : Tally) {p : ℕ} {a : Float} → end ≡ Done x n u → p ≡ max (t .peak) (u .peak) → a ≡ absOf weight
+      → Held (add binary64 m (mul binary64 weight x)) (tally p (add binary64 (t .discarded) (mul binary64 a (u .discarded)))) ≡ added m t weight end
+  end-added x n u e p a =
+      (λ z. Held (add binary64 m (mul binary64 weight x)) (tally (p z) (add binary64 (t .discarded) (mul binary64 (a z) (u .discarded)))))
+      ∙ sym (ap (added m t weight) e)
+
+module _ (qubits : ℕ) (l : Limits) (keys : List ℕ) (weights : List Float) (k : ℕ) (ops : List Op) (ms : List Bool) (i : ℕ) (ws : List ℕ) (cs : List Float)
+    (w : ℕ) (wide : w ≡ widthOf qubits) (inside : i < k) (ready : FoldReady w l keys weights k ws cs) where
+  abbrev task : Task
+  task = taskIn qubits l keys weights k ops
+
+  parts : (k ≤ l .limit) × (k ≤ length keys / (2 * w)) × (k ≤ length weights)
+  parts =
+      let p = and-true (leb k (l .limit)) _ (ready .0) in
+      let q = and-true (leb k (length keys / (2 * w))) _ (p .1) in
+      (leb-true _ _ (p .0), leb-true _ _ (q .0), leb-true _ _ (q .1))
+
+  alone-given : isGiven w (l .limit) keys weights (Alone i) ≡ true
+  alone-given =
+      let a : leb 1 (l .limit) ≡ true = le-leb 1 (l .limit) (let h = parts .0 in omega (arith, h, inside)) in
+      let b : ltb i (length keys / (2 * w)) ≡ true = lt-ltb i _ (let h = parts .1 in omega (arith, h, inside)) in
+      λ z. a z && b z
+
+  room : leb (2 * l .limit) (rowsIn w ws cs) ≡ true
+  room = le-leb _ _ (ready .1)
+
+  pub line-refused : (at : Folded) (n : ℕ) → at ≡ Ended n → Totals w (bind (heldIn at) (addNext task ms (lineAt w keys weights i))) (Ended n) ws ws cs cs
+  line-refused at n e = record {
+    totals = sym (ap (λ (a : Folded). bind (heldIn a) (addNext task ms (lineAt w keys weights i))) e);
+    rows = emptied (hold-start (2 * w) (rowsIn w ws cs) 0 ws cs);
+  }
+
+  pub line-added : (at : Folded) (m : Float) (t : Tally) {x : Float} {end : Ending} {r : Folded} {ws′ : List ℕ} {cs′ : List Float} → at ≡ Held m t
+      → Ran w (isHeld w l keys weights (Alone i) (rowsIn w ws cs)) (startedRun w l keys weights (Alone i) ms ops (rowsIn w ws cs)) end ws ws′ cs cs′
+      → x ≡ getD weights i nan → r ≡ added m t x end
+      → Totals w (bind (heldIn at) (addNext task ms (lineAt w keys weights i))) r ws ws′ cs cs′
+  line-added at m t {x} {end} {r} {ws′} {cs′} e R wt a =
+      let run : Stage Outcome = markedRun w l ms ops (startState w keys weights (Alone i)) in
+      let same : run ≡ alone task ms (lineAt w keys weights i) = λ z. markedRun (wide z) l ms ops (begin (termOf (wide z) (lineAt w keys weights i .key) one64 ∷ [])) in
+      let asked : startedRun w l keys weights (Alone i) ms ops (rowsIn w ws cs) ≡ run = λ z. ask 2 (alone-given z) (ask 7 (room z) run) in
+      let held : isHeld w l keys weights (Alone i) (rowsIn w ws cs) ≡ true = λ z. alone-given z && room z in
+      record {
+        totals = ap heldIn a ∙ ap (λ (y : Float). heldIn (added m t y end)) wt ∙ ap (λ (x : Ending). heldIn (added m t (getD weights i nan) x)) (R .answer ∙ ap endingOf asked) ∙ added-is m t (getD weights i nan) run
+            ∙ ap (λ (s : Stage Outcome). bind s (λ o. going (addLine (outcome [] m [] (t .peak) (t .discarded)) (getD weights i nan) o))) same
+            ∙ sym (ap (λ (a : Folded). bind (heldIn a) (addNext task ms (lineAt w keys weights i))) e);
+        rows = emptied (R .rows held);
+      }
+
+-- ---- all lines
+
+fold-snoc : (t : Task) (ms : List Bool) (ls : List Line) (l : Line) (a : Outcome) → foldLines t ms (ls ++ (l ∷ [])) a ≡ bind (foldLines t ms ls a) (addNext t ms l)
+unfolding foldLines
+fold-snoc t ms [] l a = bind-going (addNext t ms l a)
+fold-snoc t ms (x ∷ ls) l a =
+    bind-same (addNext t ms x a) (foldLines t ms (ls ++ (l ∷ []))) (λ b. bind (foldLines t ms ls b) (addNext t ms l)) (λ b. fold-snoc t ms ls l b)
+    ∙ sym (bind-bind (addNext t ms x a) (foldLines t ms ls) (addNext t ms l))
+
+module _ (t : Task) (ms : List Bool) (f : ℕ → Line) where
+  pub fold-none : (w : ℕ) (ws : List ℕ) (cs : List Float) {r : Folded} → heldIn r ≡ going nothingYet → Totals w (foldLines t ms (tab 0 f) nothingYet) r ws ws cs cs
+  unfolding foldLines tab
+  fold-none w ws cs e = record { totals = e; rows = emptied (hold-start (2 * w) (rowsIn w ws cs) 0 ws cs) }
+
+  pub fold-next : (i : ℕ) {w : ℕ} {at r : Folded} {ws₀ ws ws′ : List ℕ} {cs₀ cs cs′ : List Float} → Totals w (foldLines t ms (tab i f) nothingYet) at ws₀ ws cs₀ cs
+      → Totals w (bind (heldIn at) (addNext t ms (f i))) r ws ws′ cs cs′ → Totals w (foldLines t ms (tab (i + 1) f) nothingYet) r ws₀ ws′ cs₀ cs′
+  fold-next i {w} {at} {r} {ws₀} {ws} {ws′} {cs₀} {cs} {cs′} T U = record {
+    totals = U .totals ∙ ap (λ (s : Stage Outcome). bind s (addNext t ms (f i))) (T .totals) ∙ sym (fold-snoc t ms (tab i f) (f i) nothingYet)
+        ∙ ap (λ (ls : List Line). foldLines t ms ls nothingYet) (sym (tab-snoc i f) ∙ ap (λ (n : ℕ). tab n f) (sym (add-one i)));
+    rows = hold-trans (T .rows) (subst (λ (R : ℕ). Holds (2 * w) R 0 [] ws ws′ cs cs′) (held-rows w (T .rows)) (U .rows));
+  }
+
+-- rows for twice limit, still
+pub ready-again : (w : ℕ) (l : Limits) (keys : List ℕ) (weights : List Float) (k : ℕ) {s : Stage Outcome} {r : Folded} {ws₀ ws : List ℕ} {cs₀ cs : List Float}
+    → FoldReady w l keys weights k ws₀ cs₀ → Totals w s r ws₀ ws cs₀ cs → FoldReady w l keys weights k ws cs
+ready-again w l keys weights k ready T = (ready .0, subst⁻¹ (λ (x : ℕ). 2 * l .limit ≤ x) (held-rows w (T .rows)) (ready .1))
+
+-- ---- the end
+
+pub ended-refused : (at : Folded) (n : ℕ) → at ≡ Ended n → Failed n ≡ endingOf (bind (heldIn at) askTotals)
+ended-refused at n e = sym (ap (λ (a : Folded). endingOf (bind (heldIn a) askTotals)) e)
+
+module _ (at : Folded) (m : Float) (t : Tally) (e : at ≡ Held m t) {a b : Bool} (p : a ≡ isFinite m) (q : b ≡ isFinite (t .discarded)) where
+  asked : (x y : Bool) → a ≡ x → b ≡ y → endingOf (bind (heldIn at) askTotals) ≡ endingOf (ask 8 (x && y) (going (outcome [] m [] (t .peak) (t .discarded))))
+  asked x y f g =
+      ap (λ (c : Folded). endingOf (bind (heldIn c) askTotals)) e
+      ∙ (λ z. endingOf (ask 8 ((sym p ∙ f) z && (sym q ∙ g) z) (going (outcome [] m [] (t .peak) (t .discarded)))))
+
+  pub ended-on : a ≡ true → b ≡ true → Done m 0 t ≡ endingOf (bind (heldIn at) askTotals)
+  ended-on f g = sym (asked true true f g)
+
+  pub ended-8 : a ≡ true → b ≡ false → Failed 8 ≡ endingOf (bind (heldIn at) askTotals)
+  ended-8 f g = sym (asked true false f g)
+
+pub ended-mean : (at : Folded) (m : Float) (t : Tally) → at ≡ Held m t → {a : Bool} → a ≡ isFinite m → a ≡ false → Failed 8 ≡ endingOf (bind (heldIn at) askTotals)
+ended-mean at m t e p f = sym (asked at m t e p refl false (isFinite (t .discarded)) f refl)
+
+-- an outcome of the fold has no terms
+none-left : (at : Folded) → leftBy (bind (heldIn at) askTotals) ≡ []
+none-left (Ended n) = refl
+none-left (Held m t) = go (isFinite m && isFinite (t .discarded))
+  where
+    go : (b : Bool) → leftBy (ask 8 b (going (outcome [] m [] (t .peak) (t .discarded)))) ≡ []
+    go true = refl
+    go false = refl
+
+module _ (w : ℕ) (t : Task) (ms : List Bool) (f : ℕ → Line) (k : ℕ) (e₀ : tab k f ≡ t .lines) {at : Folded} {r : Ending} {n : ℕ} {ws ws′ ws″ : List ℕ} {cs cs′ cs″ : List Float} where
+  pub folds : Totals w (foldLines t ms (tab k f) nothingYet) at ws ws′ cs cs′ → n ≡ rowsIn w ws′ cs′ → Cleared w 0 n ws′ ws″ cs′ cs″
+      → r ≡ endingOf (bind (heldIn at) askTotals) → Folds w (folded t ms) r ws ws″ cs cs″
+  folds T e C a =
+      let all : heldIn at ≡ foldLines t ms (t .lines) nothingYet = T .totals ∙ ap (λ (ls : List Line). foldLines t ms ls nothingYet) e₀ in
+      let R : ℕ = rowsIn w ws cs in
+      let same : n ≡ R = e ∙ held-rows w (T .rows) in
+      record {
+        answer = a ∙ ap (λ (s : Stage Outcome). endingOf (bind s askTotals)) all;
+        none = ap (λ (s : Stage Outcome). leftBy (bind s askTotals)) (sym all) ∙ none-left at;
+        rows = stepped-cleared w R (T .rows) 0 (omega arith) (le-refl R) (subst (λ (k : ℕ). Cleared w 0 k ws′ ws″ cs′ cs″) same C);
+      }

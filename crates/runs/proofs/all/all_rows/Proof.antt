@@ -1,0 +1,45 @@
+-- `all_rows` meets its contract: at q the qubits before q have had their runs. Assumes nothing.
+use Prim.Native.Nat.{_-_, _≤_}
+use mathlib.Core.Path.{_≡_}
+use native.Mathlib.Omega.{arith}
+use lib.ListN.{take}
+use denote.Ref.{now}
+use borrow.Author.Needs.{needs}
+use Rattle.runs.specs.Means.{allTo, Passes}
+use Rattle.runs.proofs.AllRunLaws.{all-start, all-turn, all-ready}
+use Rattle.runs.proofs.all.all_rows.Statement.{statement}
+use Rattle.runs.proofs.all.all_rows.Tie as tie
+
+abbrev Inv-loop : tie.InvT-loop
+Inv-loop ops n marks limits words₀ coeffs₀ w means₀ qubits at₀ q₀ words coeffs means at q = (q ≤ qubits) × Passes w q at words₀ words coeffs₀ coeffs means₀ means (allTo w limits marks (take n ops) q)
+
+abbrev μ-loop : tie.MeasureT-loop
+μ-loop ops n marks limits words₀ coeffs₀ w means₀ qubits at₀ q₀ words coeffs means at q = qubits - q
+
+loop-holds : tie.Need-loop-holds Inv-loop μ-loop
+loop-holds c = let a = c .before .before .before .before .before .args in (omega arith, all-start (a .w) (a .limits) (now (a .marks)) (take (a .n) (a .ops)) _ (now (a .words)) (now (a .coeffs)) (now (a .means)) (c .nothing-yet .ensures))
+
+all-step-requires : tie.Need-all-step-requires Inv-loop μ-loop
+all-step-requires c κs = all-ready (c .before .before .before .before .before .before .before .before .before .before .pre) (c .before .before .before .before .loop .inv .1) (c .before .before .before .loop-test .taken)
+
+loop-again : tie.Need-loop-again Inv-loop μ-loop
+loop-again c = let a = c .before .before .before .before .before .before .before .before .before .before .before .before .before .before .before .before .before .args in (omega arith, all-turn (a .w) (a .limits) (now (a .marks)) (take (a .n) (a .ops)) (c .before .before .before .before .before .before .before .before .before .before .before .loop .inv .1) (c .before .before .before .before .before .before .all-step .ensures))
+
+same-length : tie.Need-same-length Inv-loop μ-loop
+same-length c = c .before .loop .inv .1 .rows .words-long
+
+same-length-2 : tie.Need-same-length-2 Inv-loop μ-loop
+same-length-2 c = c .before .loop .inv .1 .rows .coeffs-long
+
+same-length-3 : tie.Need-same-length-3 Inv-loop μ-loop
+same-length-3 c = c .before .loop .inv .1 .long
+
+returns : tie.Need-returns Inv-loop μ-loop
+returns c = let e : c .before .loop .q ≡ c .before .before .before .before .before .before .before .args .qubits = omega arith in rw e at (c .before .loop .inv .1)
+
+pub all-rows-spec : {M : Type 1} → statement M
+all-rows-spec =
+    tie.close
+    (tie.spec
+    Inv-loop μ-loop (λ c κs. search needs) loop-holds all-step-requires (λ c. omega arith) (λ c. omega arith) loop-again same-length
+    same-length-2 same-length-3 returns)

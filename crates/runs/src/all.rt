@@ -1,0 +1,240 @@
+// One Z mean for each qubit.
+ghost use mathlib.Core.Path.{_≡_};
+ghost use mathlib.Core.Bool.{_&&_};
+ghost use mathlib.Core.List.{[]};
+ghost use Prim.Native.Nat.{_+_, _*_, _≤_, _<_};
+ghost use lib.ListN.{length, take};
+ghost use Rattle.numbers.specs.Constants.{zero64};
+ghost use Rattle.words.specs.Keys.{widthOf};
+ghost use Rattle.rows.specs.Rows.{rowsIn};
+ghost use Rattle.rows.specs.Cleared.{filled};
+ghost use Rattle.turns.specs.Turn.{bind, going, outcome};
+ghost use Rattle.turns.specs.Runs.{markedRun};
+ghost use Rattle.turns.specs.Told.{endingOf};
+ghost use Rattle.runs.specs.Outcome.{nothingYet};
+ghost use Rattle.runs.specs.Means.{allHeld, allAsked, AllRan, earlyAll, zState, zStep, allTo, AllReady, Answers, allIn, Passes, Added, clearedMeans, AllLeaves};
+use crate::width;
+use rows::clear::clear_rows;
+use rows::row;
+use turns::Ending;
+use turns::Limits;
+use turns::Op;
+use turns::Start;
+use turns::Tally;
+use turns::marks;
+use turns::run;
+
+fn both(a: bool, b: bool) -> bool
+    ensures { λ r. ⌜ r ≡ a && b ⌝ }
+{
+    if a { b } else { false }
+}
+
+// The question that refuses before the first run, or 0.
+fn refusal(qubits: usize, limits: Limits, rows: usize, places: usize) -> u8
+    ensures { λ r. ⌜ r ≡ earlyAll qubits limits rows places ⌝ }
+{
+    let limit = limits.limit;
+    if !both(1 <= limit, qubits <= 256) {
+        return 2;
+    }
+    if !both(limit <= rows / 2, qubits <= places) {
+        return 7;
+    }
+    0
+}
+
+// The run from Z at qubit q.
+fn run_z(
+    ops: [Op; 4096],
+    n: usize,
+    marks: &[bool],
+    limits: Limits,
+    words: &mut [u64],
+    coeffs: &mut [f64],
+    w: usize,
+    q: usize,
+    tally: Tally,
+) -> Ending
+    requires { ⌜ (1 ≤ limits .limit) × (w ≤ 4) × (q < 64 * w) × (2 * limits .limit ≤ rowsIn w (now words) (now coeffs)) ⌝ }
+    ensures { λ r. ⌜ Answers w r (now (words .entry)) (now (words .exit)) (now (coeffs .entry)) (now (coeffs .exit))
+        (markedRun w limits (now (marks .entry)) (take n ops) (zState w q (outcome [] zero64 [] (tally .peak) (tally .discarded)))) ⌝ }
+{
+    let keys = [0u64; 1];
+    let weights = [0.0; 1];
+    run::run_marked(
+        Start::Z(q, tally),
+        &keys,
+        &weights,
+        ops,
+        n,
+        marks,
+        limits,
+        words,
+        coeffs,
+        w,
+    )
+}
+
+// What one qubit's run adds: its mean, or the refusal.
+fn add_mean(means: &mut [f64], q: usize, end: Ending) -> Ending
+    requires { ⌜ q < length (now means) ⌝ }
+    ensures { λ r. ⌜ Added q (now (means .entry)) (now (means .exit)) end r ⌝ }
+{
+    match end {
+        Ending::Failed(e) => Ending::Failed(e),
+        Ending::Done(mean, _, tally) => {
+            means[q] = mean;
+            Ending::Done(0.0, 0, tally)
+        }
+    }
+}
+
+// One qubit's turn, which is skipped after a refusal.
+fn all_step(
+    ops: [Op; 4096],
+    n: usize,
+    marks: &[bool],
+    limits: Limits,
+    words: &mut [u64],
+    coeffs: &mut [f64],
+    w: usize,
+    means: &mut [f64],
+    q: usize,
+    at: Ending,
+) -> Ending
+    requires { ⌜ AllReady w (q + 1) limits (now words) (now coeffs) (now means) ⌝ }
+    ensures { λ r. ⌜ Passes w (q + 1) r (now (words .entry)) (now (words .exit)) (now (coeffs .entry)) (now (coeffs .exit)) (now (means .entry)) (now (means .exit))
+        (bind (allIn q at (now (means .entry))) (zStep w limits (now (marks .entry)) (take n ops) q)) ⌝ }
+{
+    match at {
+        Ending::Failed(e) => Ending::Failed(e),
+        Ending::Done(_, _, tally) => {
+            let end = run_z(ops, n, marks, limits, words, coeffs, w, q, tally);
+            add_mean(means, q, end)
+        }
+    }
+}
+
+// No run yet.
+fn nothing_yet() -> Ending
+    ensures { λ r. ⌜ r ≡ endingOf (going nothingYet) ⌝ }
+{
+    Ending::Done(
+        0.0,
+        0,
+        Tally {
+            peak: 0,
+            discarded: 0.0,
+        },
+    )
+}
+
+// The runs of all qubits, in order, with one tally.
+fn all_rows(
+    ops: [Op; 4096],
+    n: usize,
+    marks: &[bool],
+    limits: Limits,
+    words: &mut [u64],
+    coeffs: &mut [f64],
+    w: usize,
+    means: &mut [f64],
+    qubits: usize,
+) -> Ending
+    requires { ⌜ AllReady w qubits limits (now words) (now coeffs) (now means) ⌝ }
+    ensures { λ r. ⌜ Passes w qubits r (now (words .entry)) (now (words .exit)) (now (coeffs .entry)) (now (coeffs .exit)) (now (means .entry)) (now (means .exit))
+        (allTo w limits (now (marks .entry)) (take n ops) qubits) ⌝ }
+{
+    let mut at = nothing_yet();
+    let mut q = 0;
+    while q < qubits {
+        at = all_step(ops, n, marks, limits, words, coeffs, w, means, q, at);
+        q += 1;
+    }
+    at
+}
+
+// Sets the first n mean places to zero.
+fn clear_means(means: &mut [f64], n: usize)
+    requires { ⌜ n ≤ length (now means) ⌝ }
+    ensures { λ _. ⌜ now (means .exit) ≡ filled zero64 0 n (now (means .entry)) ⌝ }
+{
+    let mut i = 0;
+    while i < n {
+        means[i] = 0.0;
+        i += 1;
+    }
+}
+
+// Sets the first n mean places to zero after a refusal.
+fn clear_refused(means: &mut [f64], n: usize, at: Ending)
+    requires { ⌜ n ≤ length (now means) ⌝ }
+    ensures { λ _. ⌜ now (means .exit) ≡ clearedMeans n at (now (means .entry)) ⌝ }
+{
+    match at {
+        Ending::Failed(_) => clear_means(means, n),
+        Ending::Done(_, _, _) => {}
+    }
+}
+
+// The runs of all qubits; then every row is set to zero, and after a refusal the mean of every qubit.
+fn all_marked(
+    ops: [Op; 4096],
+    n: usize,
+    marks: &[bool],
+    limits: Limits,
+    words: &mut [u64],
+    coeffs: &mut [f64],
+    w: usize,
+    rows: usize,
+    means: &mut [f64],
+    qubits: usize,
+) -> Ending
+    requires { ⌜ AllReady w qubits limits (now words) (now coeffs) (now means) × (rows ≡ rowsIn w (now words) (now coeffs)) ⌝ }
+    ensures { λ r. ⌜ AllLeaves w qubits r (now (words .entry)) (now (words .exit)) (now (coeffs .entry)) (now (coeffs .exit)) (now (means .entry)) (now (means .exit))
+        (allTo w limits (now (marks .entry)) (take n ops) qubits) ⌝ }
+{
+    let at = all_rows(ops, n, marks, limits, words, coeffs, w, means, qubits);
+    clear_rows(words, coeffs, w, 0, rows);
+    clear_refused(means, qubits, at);
+    at
+}
+
+// One mean for each qubit, in the first mean places: qubit after qubit, the run of the first n ops from Z at that qubit alone, with one
+// running discarded weight and the greatest peak. A limit of 0 or more than 256 qubits is refused with 2, too few rows or mean places with
+// 7; then nothing changes. Else every row is zero at the end, and if 8 or 9 refuses a qubit's run, so is the mean of every qubit.
+pub fn run_spd_lowered(
+    qubits: usize,
+    ops: [Op; 4096],
+    n: usize,
+    limits: Limits,
+    words: &mut [u64],
+    coeffs: &mut [f64],
+    means: &mut [f64],
+) -> Ending
+    ensures { λ r. ⌜ AllRan qubits (allHeld qubits limits (rowsIn (widthOf qubits) (now (words .entry)) (now (coeffs .entry))) (length (now (means .entry))))
+        (allAsked qubits limits (take n ops) (rowsIn (widthOf qubits) (now (words .entry)) (now (coeffs .entry))) (length (now (means .entry))))
+        r (now (words .entry)) (now (words .exit)) (now (coeffs .entry)) (now (coeffs .exit)) (now (means .entry)) (now (means .exit)) ⌝ }
+{
+    let w = width::width(qubits);
+    let rows = row::rows_in(words.len(), coeffs.len(), w);
+    let number = refusal(qubits, limits, rows, means.len());
+    if 0 < number {
+        return Ending::Failed(number);
+    }
+    let mut marks = [false; 4096];
+    marks::full_marks(ops, n, &mut marks);
+    all_marked(
+        ops,
+        n,
+        &marks,
+        limits,
+        words,
+        coeffs,
+        w,
+        rows,
+        means,
+        qubits,
+    )
+}

@@ -1,0 +1,203 @@
+// The fold: each line of a sum alone at weight 1, and the totals.
+ghost use mathlib.Core.Path.{_≡_};
+ghost use mathlib.Core.Bool.{true};
+ghost use mathlib.Core.List.{[]};
+ghost use Prim.Native.Nat.{_*_, _≤_, _<_, max};
+ghost use lib.ListN.{length, take, getD};
+ghost use lib.Ieee.{nan};
+ghost use Rattle.words.specs.Keys.{widthOf};
+ghost use Rattle.terms.specs.Lists.{tab};
+ghost use Rattle.rows.specs.Rows.{rowsIn, Holds, wordsWith, coeffsWith};
+ghost use Rattle.turns.specs.declared.Start.the-variants.{Lines};
+ghost use Rattle.turns.specs.Turn.{bind};
+ghost use Rattle.turns.specs.Given.{isGiven};
+ghost use Rattle.turns.specs.Told.{endingOf};
+ghost use Rattle.runs.specs.Outcome.{nothingYet, addNext, foldLines, folded, askTotals};
+ghost use Rattle.runs.specs.Table.{lineAt, taskIn, heldIn, added, meetsNine, FoldReady, Totals, Folds};
+use rows::clear::clear_rows;
+use rows::row;
+use turns::Ending;
+use turns::Limits;
+use turns::Op;
+use turns::Start;
+use turns::Tally;
+use turns::run::run_marked;
+
+// The totals so far, or the refusal of one line.
+pub(crate) enum Folded {
+    Ended(u8),
+    Held(f64, Tally),
+}
+
+fn larger(a: usize, b: usize) -> usize
+    ensures { λ r. ⌜ r ≡ max a b ⌝ }
+{
+    if a <= b { b } else { a }
+}
+
+// The totals with one line's end: its mean times the weight, its discarded weight times the weight's size, the greater peak.
+fn add_line(mean: f64, tally: Tally, weight: f64, end: Ending) -> Folded
+    ensures { λ r. ⌜ r ≡ added mean tally weight end ⌝ }
+{
+    match end {
+        Ending::Failed(q) => Folded::Ended(q),
+        Ending::Done(x, _, t) => Folded::Held(
+            mean + weight * x,
+            Tally {
+                peak: larger(tally.peak, t.peak),
+                discarded: tally.discarded + numbers::tests::absolute(weight) * t.discarded,
+            },
+        ),
+    }
+}
+
+fn weight_at(weights: &[f64], i: usize) -> f64
+    ensures { λ r. ⌜ r ≡ getD (now (weights .entry)) i nan ⌝ }
+{
+    if i < weights.len() {
+        return weights[i];
+    }
+    0.0 / 0.0
+}
+
+// Line i alone, unless one before it was refused.
+fn fold_line(
+    at: Folded,
+    i: usize,
+    qubits: usize,
+    w: usize,
+    keys: &[u64],
+    weights: &[f64],
+    lines: usize,
+    ops: [Op; 4096],
+    n: usize,
+    marks: &[bool],
+    limits: Limits,
+    words: &mut [u64],
+    coeffs: &mut [f64],
+) -> Folded
+    requires { ⌜ (w ≡ widthOf qubits) × (i < lines) × FoldReady w limits (now keys) (now weights) lines (now words) (now coeffs) ⌝ }
+    ensures { λ r. ⌜ Totals w (bind (heldIn at) (addNext (taskIn qubits limits (now (keys .entry)) (now (weights .entry)) lines (take n ops)) (now (marks .entry)) (lineAt w (now (keys .entry)) (now (weights .entry)) i)))
+        r (now (words .entry)) (now (words .exit)) (now (coeffs .entry)) (now (coeffs .exit)) ⌝ }
+{
+    match at {
+        Folded::Ended(q) => Folded::Ended(q),
+        Folded::Held(mean, tally) => {
+            let weight = weight_at(weights, i);
+            let end = run_marked(
+                Start::Alone(i),
+                keys,
+                weights,
+                ops,
+                n,
+                marks,
+                limits,
+                words,
+                coeffs,
+                w,
+            );
+            add_line(mean, tally, weight, end)
+        }
+    }
+}
+
+// All lines, in order.
+fn fold_lines(
+    qubits: usize,
+    w: usize,
+    keys: &[u64],
+    weights: &[f64],
+    lines: usize,
+    ops: [Op; 4096],
+    n: usize,
+    marks: &[bool],
+    limits: Limits,
+    words: &mut [u64],
+    coeffs: &mut [f64],
+) -> Folded
+    requires { ⌜ (w ≡ widthOf qubits) × FoldReady w limits (now keys) (now weights) lines (now words) (now coeffs) ⌝ }
+    ensures { λ r. ⌜ Totals w (foldLines (taskIn qubits limits (now (keys .entry)) (now (weights .entry)) lines (take n ops)) (now (marks .entry)) (tab lines (lineAt w (now (keys .entry)) (now (weights .entry)))) nothingYet)
+        r (now (words .entry)) (now (words .exit)) (now (coeffs .entry)) (now (coeffs .exit)) ⌝ }
+{
+    let mut at = Folded::Held(
+        0.0,
+        Tally {
+            peak: 0,
+            discarded: 0.0,
+        },
+    );
+    let mut i = 0;
+    while i < lines {
+        at = fold_line(
+            at,
+            i,
+            qubits,
+            w,
+            keys,
+            weights,
+            lines,
+            ops,
+            n,
+            marks,
+            limits,
+            words,
+            coeffs,
+        );
+        i += 1;
+    }
+    at
+}
+
+// Question 8 of the totals.
+fn ended(at: Folded) -> Ending
+    ensures { λ r. ⌜ r ≡ endingOf (bind (heldIn at) askTotals) ⌝ }
+{
+    match at {
+        Folded::Ended(q) => Ending::Failed(q),
+        Folded::Held(mean, tally) => {
+            if numbers::tests::is_finite(mean) {
+                if numbers::tests::is_finite(tally.discarded) {
+                    return Ending::Done(mean, 0, tally);
+                }
+                return Ending::Failed(8);
+            }
+            Ending::Failed(8)
+        }
+    }
+}
+
+// The fold of all lines; every row is zero after it.
+pub(crate) fn fold(
+    qubits: usize,
+    w: usize,
+    keys: &[u64],
+    weights: &[f64],
+    lines: usize,
+    ops: [Op; 4096],
+    n: usize,
+    marks: &[bool],
+    limits: Limits,
+    words: &mut [u64],
+    coeffs: &mut [f64],
+) -> Ending
+    requires { ⌜ (w ≡ widthOf qubits) × FoldReady w limits (now keys) (now weights) lines (now words) (now coeffs) ⌝ }
+    ensures { λ r. ⌜ Folds w (folded (taskIn qubits limits (now (keys .entry)) (now (weights .entry)) lines (take n ops)) (now (marks .entry)))
+        r (now (words .entry)) (now (words .exit)) (now (coeffs .entry)) (now (coeffs .exit)) ⌝ }
+{
+    let at = fold_lines(
+        qubits,
+        w,
+        keys,
+        weights,
+        lines,
+        ops,
+        n,
+        marks,
+        limits,
+        words,
+        coeffs,
+    );
+    let rows = row::rows_in(words.len(), coeffs.len(), w);
+    clear_rows(words, coeffs, w, 0, rows);
+    ended(at)
+}
