@@ -15,7 +15,7 @@ use Rattle.terms.specs.Term.{term, find, conjugated, allFinite}
 use Rattle.terms.specs.Start.{countY, termOf}
 use Rattle.terms.specs.Rotation.{metBy, partnerBy, appendedRows, rotated}
 use Rattle.terms.specs.Truncation.{keptOf}
-use Rattle.terms.proofs.NearLaws.{none, more}
+use Rattle.terms.specs.Lists.{none, more}
 use Rattle.turns.specs.declared.Op.{Op}
 use Rattle.turns.specs.declared.Op.the-variants.{Native, T, Rz, Barrier}
 use Rattle.turns.specs.Ops.{onWords, act}

@@ -1,21 +1,24 @@
 -- The marks that the code's cone run makes are those of the cone's definition, for every task that the questions pass as `cone`: so what
 -- demand 3 says of `outcomeOf Cone` it says of the code. Assumes nothing.
-use mathlib.Core.Path.{_≡_, refl, sym, ap, _∙_}
+use mathlib.Core.Path.{_≡_, refl, sym, ap, _∙_, subst}
 use mathlib.Core.Bool.{Bool, true, false, _||_, _&&_, false≢true}
 use mathlib.Core.List.{List, [], _∷_}
 use Prim.Native.Nat.{ℕ, zero, suc, _+_, _*_, _/_, _%_, _≤_, _<_}
 use native.Mathlib.Nat.{zero-mul}
 use native.Mathlib.Omega.{arith}
-use lib.Dec.{ltb, leb}
+use lib.Dec.{ltb}
 use lib.ListN.{length, getD, take, drop}
 use lib.Seq.{getD-take}
 use lib.Ieee.{Float}
-use borrow.Author.Tests.{ltb-true, leb-true}
+use borrow.Author.Tests.{ltb-true}
 use Rattle.words.specs.Keys.{Key, widthOf, bitOf, bitAt, zAt, hasLetter}
 use Rattle.terms.specs.Lists.{All, tab}
+use Rattle.terms.proofs.AllLaws.{all-imp}
 use Rattle.terms.proofs.CaseLaws.{and-true}
 use Rattle.terms.proofs.ListLaws.{tab-ext}
+use Rattle.terms.proofs.LetterSteps.{Within}
 use Rattle.rows.specs.Rows.{keyAt}
+use Rattle.turns.specs.declared.Ending.{Ending}
 use Rattle.turns.specs.declared.Limits.{Limits}
 use Rattle.turns.specs.declared.Op.{Op}
 use Rattle.turns.specs.Ops.{targets}
@@ -23,11 +26,11 @@ use Rattle.turns.specs.Runs.{markCone}
 use Rattle.turns.specs.Marks.{letterIn, lettersIn, coneMarks}
 use Rattle.turns.proofs.MarkLaws.{TargetsBelow}
 use Rattle.runs.specs.declared.Run.the-variants.{Cone}
-use Rattle.runs.specs.Task.{Line, Task, width, every, qubitsOf, question2, question3, question4, question5, question6, isOne, channelFree, passes}
-use Rattle.runs.specs.Outcome.{observed, sumRun, outcomeOf}
-use Rattle.runs.specs.Table.{lineAt, taskIn}
+use Rattle.runs.specs.Task.{Line, Task, width, question2, question3, question4, question5, question6, isOne, passes}
+use Rattle.runs.specs.Outcome.{observed}
+use Rattle.runs.specs.Table.{taskIn, SumRan, ConeRan}
 use Rattle.runs.proofs.CoverLaws.{cone-is}
-use Rattle.runs.proofs.Demand.{every-all}
+use Rattle.runs.proofs.Demand.{counts-say, one-line, targets-within}
 
 -- ---- the word of the first line is read from the start of the table
 
@@ -52,29 +55,12 @@ letters-first w keys =
 
 -- ---- what the questions say
 
-few-qubits : (t : Task) → question2 t ≡ true → t .qubits ≤ 256
-unfolding question2
-few-qubits t h =
-    let n = t .qubits in
-    let m = t .limits .limit in
-    let lines = length (t .lines) in
-    let counts = leb 1 m && leb m 1048576 in
-    let a = and-true (leb 1 n && leb n 256 && counts) (leb lines 1024 && leb lines m && leb (length (t .ops)) 4096) h in
-    leb-true n 256 (and-true (leb 1 n) (leb n 256) (and-true (leb 1 n && leb n 256) counts (a .0) .0) .1)
+below-all : (n : ℕ) (qs : List ℕ) → n ≤ 256 → All (λ q. q < 64 * widthOf n) qs → All (λ q. q < 256) qs
+below-all n qs few h = all-imp (λ q. q < 64 * widthOf n) (λ q. q < 256) qs (λ q b. omega (arith, b, few)) h
 
 targets-below : (t : Task) → t .qubits ≤ 256 → question5 t ≡ true → TargetsBelow (t .ops)
-unfolding question5
 targets-below t few h =
-    every-all (λ op. every low (targets op)) (λ op. All (λ q. q < 256) (targets op)) (t .ops)
-    (λ op. every-all low (λ q. q < 256) (targets op) (λ q e. let b = ltb-true q (t .qubits) e in omega (arith, b, few)))
-    (and-true (every (λ l. every low (qubitsOf (width t) (l .key))) (t .lines)) (every (λ op. every low (targets op)) (t .ops)) h .1)
-  where
-    low : ℕ → Bool
-    low q = ltb q (t .qubits)
-
-one-line : (t : Task) → question3 Cone t ≡ true → isOne (t .lines) ≡ true
-unfolding question3
-one-line t h = and-true (isOne (t .lines)) (channelFree t) h .0
+    all-imp (λ op. Within (width t) (targets op)) (λ op. All (λ q. q < 256) (targets op)) (t .ops) (λ op. below-all (t .qubits) (targets op) few) (targets-within t h)
 
 -- ---- the code's run
 
@@ -87,10 +73,17 @@ module _ (qubits : ℕ) (l : Limits) (keys : List ℕ) (weights : List Float) (o
       ap (λ (s : List Bool). coneMarks s ops) (letters-first (widthOf qubits) keys) ∙ cone-is (widthOf qubits) (keyAt (2 * widthOf qubits) keys 0) ops h
 
   pub cone-code : (k : ℕ) → passes Cone (taskIn qubits l keys weights k ops) ≡ true
-      → sumRun (taskIn qubits l keys weights k ops) (coneMarks (lettersIn (widthOf qubits) keys) ops) ≡ outcomeOf Cone (taskIn qubits l keys weights k ops)
+      → coneMarks (lettersIn (widthOf qubits) keys) ops ≡ markCone (observed (taskIn qubits l keys weights k ops)) ops
   cone-code k h =
       let t : Task = taskIn qubits l keys weights k ops in
       let p = and-true (question2 t && question3 Cone t) (question4 t && (question5 t && question6 t)) h in
       let q = and-true (question2 t) (question3 Cone t) (p .0) in
       let r = and-true (question5 t) (question6 t) (and-true (question4 t) (question5 t && question6 t) (p .1) .1) in
-      ap (sumRun t) (first-marks k (one-line t (q .1)) (targets-below t (few-qubits t (q .0)) (r .0)))
+      first-marks k (one-line t (q .1)) (targets-below t (counts-say t (q .0) .0) (r .0))
+
+  pub cone-ran : (k : ℕ) {r : Ending} {ws ws′ : List ℕ} {cs cs′ : List Float} → SumRan qubits l keys weights k ops (coneMarks (lettersIn (widthOf qubits) keys) ops) r ws ws′ cs cs′
+      → ConeRan qubits l keys weights k ops r ws ws′ cs cs′
+  cone-ran k {r} {ws} {ws′} {cs} {cs′} R = record {
+    always = R;
+    cone = λ h. subst (λ (ms : List Bool). SumRan qubits l keys weights k ops ms r ws ws′ cs cs′) (cone-code k h) R;
+  }

@@ -1,13 +1,13 @@
 -- Demand 3, as specs/LightCone.antt states it. Assumes nothing.
 use mathlib.Core.Path.{_≡_, refl, sym, ap, ap₂, _∙_, subst}
-use Prim.Native.Nat.{ℕ, zero, suc, _*_, _%_, _<_}
+use Prim.Native.Nat.{ℕ, zero, suc, _*_, _%_, _≤_, _<_}
 use native.Mathlib.Nat.{le-refl, le-of-suc-le-suc, not-suc-le-zero}
 use native.Mathlib.Omega.{arith}
 use mathlib.Core.Bool.{Bool, true, false, _&&_, _||_, cond, false≢true}
 use mathlib.Core.Logic.{inl, inr}
 use mathlib.Core.List.{List, [], _∷_, map}
 use lib.Dec.{eqb, ltb, leb}
-use borrow.Author.Tests.{ltb-true, le-ltb, eqb-false}
+use borrow.Author.Tests.{ltb-true, leb-true, le-ltb, eqb-false}
 use lib.ListN.{length, drop, getD}
 use lib.Ieee.{binary64, neg, ofBits}
 use lib.Ieee.Bits.{ofBits-fits}
@@ -23,7 +23,8 @@ use Rattle.terms.specs.Start.{ysOf, termOf}
 use Rattle.terms.proofs.CaseLaws.{and-true, and-false, eq-or-ne}
 use Rattle.terms.proofs.AllLaws.{all-at, all-imp, all-and}
 use Rattle.terms.proofs.NearLaws as L
-use Rattle.terms.proofs.NearLaws.{Each, none, more, near-turned, at-key, near-finite}
+use Rattle.terms.specs.Lists.{Each, none, more}
+use Rattle.terms.proofs.NearLaws.{near-turned, at-key, near-finite}
 use Rattle.terms.proofs.LetterSteps.{Within, Clear, ClearAt}
 use Rattle.turns.specs.declared.Limits.{Limits}
 use Rattle.turns.specs.declared.Op.{Op}
@@ -42,7 +43,7 @@ use Rattle.runs.specs.LightCone.{IsBinary64, RealsAreBinary64, Binary64V
 use Rattle.runs.specs.LightCone.{SameEnd, sameRefusal, bothSucceed, endAs, marksAs, reached, MeetsIdentities, Demand, Demand3}
 
 -- ---- lists
-pub every-all : {A : Type 0} (p : A → Bool) (P : A → Type 0) (l : List A) → ((a : A) → p a ≡ true → P a) → every p l ≡ true → All P l
+every-all : {A : Type 0} (p : A → Bool) (P : A → Type 0) (l : List A) → ((a : A) → p a ≡ true → P a) → every p l ≡ true → All P l
 unfolding every
 every-all p P [] f h = tt
 every-all p P (a ∷ l) f h = let e = and-true (p a) (every p l) h in (f a (e .0), every-all p P l f (e .1))
@@ -134,21 +135,23 @@ record Facts (t : Task) : Type 0 where
   within : All (λ op. Within (width t) (targets op)) (t .ops)
 
 module _ (t : Task) where
-  has-room : question2 t ≡ true → leb 1 (t .limits .limit) ≡ true
+  -- what question 2 says of the counts
+  pub counts-say : question2 t ≡ true → (t .qubits ≤ 256) × (leb 1 (t .limits .limit) ≡ true)
   unfolding question2
-  has-room h =
+  counts-say h =
       let n = t .qubits in
       let m = t .limits .limit in
       let lines = length (t .lines) in
       let counts = leb 1 m && leb m 1048576 in
       let a = and-true (leb 1 n && leb n 256 && counts) (leb lines 1024 && leb lines m && leb (length (t .ops)) 4096) h in
-      and-true (leb 1 m) (leb m 1048576) (and-true (leb 1 n && leb n 256) counts (a .0) .1) .0
+      let b = and-true (leb 1 n && leb n 256) counts (a .0) in
+      (leb-true n 256 (and-true (leb 1 n) (leb n 256) (b .0) .1), and-true (leb 1 m) (leb m 1048576) (b .1) .0)
 
-  one-line : question3 Cone t ≡ true → isOne (t .lines) ≡ true
+  pub one-line : question3 Cone t ≡ true → isOne (t .lines) ≡ true
   unfolding question3
   one-line h = and-true (isOne (t .lines)) (channelFree t) h .0
 
-  targets-within : question5 t ≡ true → All (λ op. Within (width t) (targets op)) (t .ops)
+  pub targets-within : question5 t ≡ true → All (λ op. Within (width t) (targets op)) (t .ops)
   unfolding question5
   targets-within h =
       every-all (λ op. every low (targets op)) (λ op. Within (width t) (targets op)) (t .ops)
@@ -170,7 +173,7 @@ facts t b h =
     let p = and-true (question2 t && question3 Cone t) (question4 t && (question5 t && question6 t)) h in
     let q = and-true (question2 t) (question3 Cone t) (p .0) in
     let r = and-true (question5 t) (question6 t) (and-true (question4 t) (question5 t && question6 t) (p .1) .1) in
-    go (t .lines) (one-line t (q .1)) (b .weights) (has-room t (q .0)) (targets-within t (r .0))
+    go (t .lines) (one-line t (q .1)) (b .weights) (counts-say t (q .0) .1) (targets-within t (r .0))
   where
     go : (ls : List Line) → isOne ls ≡ true → All (λ l. IsBinary64 (l .weight)) ls → leb 1 (t .limits .limit) ≡ true
         → All (λ op. Within (width t) (targets op)) (t .ops) → Facts (withLines t ls)

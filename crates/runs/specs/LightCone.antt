@@ -15,8 +15,7 @@ use lib.Dec.{T}
 use lib.ListN.{length, drop, getD}
 use lib.Ieee.{Float, binary64, eq, fits}
 use Rattle.words.specs.Keys.{Key, hasLetter}
-use Rattle.terms.specs.Lists.{All}
-use Rattle.terms.proofs.NearLaws.{Each}
+use Rattle.terms.specs.Lists.{All, Each}
 use Rattle.turns.specs.declared.Op.{Op}
 use Rattle.turns.specs.declared.Op.the-variants.{Barrier}
 use Rattle.turns.specs.Ops.{shapeOf, targets}

@@ -21,8 +21,11 @@ use Rattle.turns.specs.Given.{isGiven, isHeld}
 use Rattle.turns.specs.Told.{tally, endingOf, leftBy, Ran}
 use Rattle.runs.specs.declared.fold.Folded.{Folded}
 use Rattle.runs.specs.declared.fold.Folded.the-variants.{Ended, Held}
-use Rattle.runs.specs.Task.{Line, Task}
-use Rattle.runs.specs.Outcome.{sumRun}
+use Rattle.turns.specs.Marks.{coneMarks, lettersIn}
+use Rattle.turns.specs.Runs.{markCone}
+use Rattle.runs.specs.declared.Run.the-variants.{Cone}
+use Rattle.runs.specs.Task.{Line, Task, passes}
+use Rattle.runs.specs.Outcome.{observed, sumRun}
 
 abbrev pub lineAt : ℕ → List ℕ → List Float → ℕ → Line
 lineAt w keys weights l = record { key = keyAt (2 * w) keys l; weight = getD weights l nan }
@@ -40,6 +43,11 @@ abbrev pub SumRan : ℕ → Limits → List ℕ → List Float → ℕ → List 
 SumRan qubits l keys weights k ops ms r ws ws′ cs cs′ =
     Ran (widthOf qubits) (isHeld (widthOf qubits) l keys weights (Lines k) (rowsIn (widthOf qubits) ws cs))
     (sumAsked qubits l keys weights k ops ms (rowsIn (widthOf qubits) ws cs)) r ws ws′ cs cs′
+
+-- `cone`, as it is marked by a set of 256 qubits; and, for a task that the questions pass as `cone`, by the document's set
+pub record ConeRan (qubits : ℕ) (l : Limits) (keys : List ℕ) (weights : List Float) (k : ℕ) (ops : List Op) (r : Ending) (ws ws′ : List ℕ) (cs cs′ : List Float) : Type 0 where
+  pub always : SumRan qubits l keys weights k ops (coneMarks (lettersIn (widthOf qubits) keys) ops) r ws ws′ cs cs′
+  pub cone : let t = taskIn qubits l keys weights k ops in passes Cone t ≡ true → SumRan qubits l keys weights k ops (markCone (observed t) ops) r ws ws′ cs cs′
 
 -- ---- the fold
 

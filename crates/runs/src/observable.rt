@@ -4,8 +4,7 @@ ghost use Prim.Native.Nat.{_*_};
 ghost use lib.ListN.{take};
 ghost use Rattle.words.specs.Keys.{widthOf};
 ghost use Rattle.turns.specs.Runs.{markAll, markPath};
-ghost use Rattle.turns.specs.Marks.{coneMarks, lettersIn};
-ghost use Rattle.runs.specs.Table.{meetsNine, SumRan};
+ghost use Rattle.runs.specs.Table.{meetsNine, SumRan, ConeRan};
 use crate::fold;
 use crate::width::width;
 use turns::Ending;
@@ -117,7 +116,7 @@ pub fn run_spd_observable_light_cone(
     words: &mut [u64],
     coeffs: &mut [f64],
 ) -> Ending
-    ensures { λ r. ⌜ SumRan qubits limits (now (keys .entry)) (now (weights .entry)) lines (take n ops) (coneMarks (lettersIn (widthOf qubits) (now (keys .entry))) (take n ops)) r
+    ensures { λ r. ⌜ ConeRan qubits limits (now (keys .entry)) (now (weights .entry)) lines (take n ops) r
         (now (words .entry)) (now (words .exit)) (now (coeffs .entry)) (now (coeffs .exit)) ⌝ }
 {
     let mut marks = [false; 4096];

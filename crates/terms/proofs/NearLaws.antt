@@ -10,17 +10,13 @@ use Rattle.numbers.specs.Close.{_≈_, same}
 use Rattle.numbers.proofs.CloseLaws.{≈-sym, ≈-trans, neg-≈, add-≈, mul-≈, lt-≈, finite-≈, abs-≈, is-zero-≈}
 use Rattle.words.specs.Keys.{Key, noX}
 use Rattle.terms.specs.declared.Complex64.{Complex64}
-use Rattle.terms.specs.Lists.{All, foldl}
+use Rattle.terms.specs.Lists.{Each, none, more, All, foldl}
 use Rattle.terms.specs.Coefficient.{scaledOf, flippedOf, plusOf, turnedOf, sizeOf}
 use Rattle.terms.specs.Term.{Term, term, allFinite}
 use Rattle.terms.specs.Truncation.{isSmall, keptOf, addDropped, droppedOf}
 use Rattle.terms.specs.Mean.{addMean, meanOf}
 
 -- ---- two lists, element by element
-
-pub data Each {A D : Type 0} (R : A → D → Type 0) : List A → List D → Type 0 where
-  none : Each R [] []
-  more : {a : A} {d : D} {l : List A} {m : List D} → R a d → Each R l m → Each R (a ∷ l) (d ∷ m)
 
 pub each-refl : {A : Type 0} {R : A → A → Type 0} → ((a : A) → R a a) → (l : List A) → Each R l l
 each-refl h [] = none

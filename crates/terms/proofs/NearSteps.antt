@@ -23,7 +23,8 @@ use Rattle.terms.specs.Term.{Term, find, isIn, addTo, conjugated}
 use Rattle.terms.specs.Rotation.{scaledMet, flippedTerm, turnedTerm, appendedTerm, turnedRow, appendedRows, rotated}
 use Rattle.terms.specs.Channel.{keepOf, pauliAction, depolAction, phaseAction, dampAction, thermalAction, depol2Action, actionOf, isZLetter, letterIndex}
 use Rattle.terms.specs.Channel.{insert, branch, withBranches, scaledLetter, scaledLocal, scaledEither, channelBy, channeled}
-use Rattle.terms.proofs.NearLaws.{Each, none, more, each-map, each-append, each-fold, each-getD, cond-both, cond-same}
+use Rattle.terms.specs.Lists.{Each, none, more}
+use Rattle.terms.proofs.NearLaws.{each-map, each-append, each-fold, each-getD, cond-both, cond-same}
 use Rattle.terms.proofs.NearLaws.{NearC, near-scaled, near-flipped, near-plus, near-turned, NearTerm, at-key, by-key, Near}
 use Rattle.terms.proofs.TargetLaws.{gateTargets, gate-by-targets}
 

@@ -22,3 +22,8 @@ mapTo f (suc n) (a ∷ l) = f a ∷ mapTo f n l
 abbrev pub All : {A : Type 0} → (A → Type 0) → List A → Type 0
 All p [] = Unit {0}
 All p (a ∷ l) = p a × All p l
+
+-- two lists whose elements are related one by one
+pub data Each {A D : Type 0} (R : A → D → Type 0) : List A → List D → Type 0 where
+  none : Each R [] []
+  more : {a : A} {d : D} {l : List A} {m : List D} → R a d → Each R l m → Each R (a ∷ l) (d ∷ m)

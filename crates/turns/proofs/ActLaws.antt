@@ -23,7 +23,8 @@ use Rattle.terms.specs.Term.{Term, conjugated}
 use Rattle.terms.specs.Rotation.{metBy, partnerBy}
 use Rattle.terms.specs.Channel.{actionOf}
 use Rattle.terms.proofs.CaseLaws.{and-true}
-use Rattle.terms.proofs.NearLaws.{Each, each-refl, each-getD, cond-same, Near, near-refl, near-sym, near-trans}
+use Rattle.terms.specs.Lists.{Each}
+use Rattle.terms.proofs.NearLaws.{each-refl, each-getD, cond-same, Near, near-refl, near-sym, near-trans}
 use Rattle.terms.proofs.NearSteps.{near-gate, near-rotated, near-channeled, NearChannel, near-action}
 use Rattle.terms.proofs.NearSteps.{near-pauli, near-depolarizing, near-damping, near-phase, near-thermal, near-depolarizing2}
 use Rattle.terms.proofs.TargetLaws.{gateTargets, axisTargets, kindTargets, kindOf, action-kind}

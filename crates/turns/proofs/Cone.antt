@@ -10,7 +10,7 @@ use Rattle.numbers.specs.Close.{_≈_}
 use Rattle.terms.specs.Lists.{All}
 use Rattle.terms.specs.Term.{Term}
 use Rattle.terms.proofs.AllLaws.{all-imp}
-use Rattle.terms.proofs.NearLaws.{Each, none, more}
+use Rattle.terms.specs.Lists.{Each, none, more}
 use Rattle.terms.proofs.LetterSteps.{Apart, Clear, ClearAt}
 use Rattle.turns.specs.declared.Limits.{Limits}
 use Rattle.turns.specs.declared.Op.{Op}

@@ -7,9 +7,8 @@ use lib.ListN.{length}
 use lib.Ieee.{Float}
 use Rattle.numbers.specs.Constants.{one64}
 use Rattle.words.specs.Keys.{Key, flipAt, zAt, noLetters}
-use Rattle.terms.specs.Term.{Term}
 use Rattle.terms.specs.Start.{termOf, merged}
-use Rattle.rows.specs.Rows.{keyAt, rowsIn}
+use Rattle.rows.specs.Rows.{keyAt}
 use Rattle.sums.specs.Steps.{linesOf}
 use Rattle.turns.specs.declared.Limits.{Limits}
 use Rattle.turns.specs.declared.Op.{Op}
@@ -28,13 +27,13 @@ startState w keys weights (Lines k) = begin (merged (linesOf w keys weights k))
 startState w keys weights (Alone i) = begin (termOf w (keyAt (2 * w) keys i) one64 ∷ [])
 startState w keys weights (Z q t) = state (termOf w (zKey w q) one64 ∷ []) (t .peak) (t .discarded)
 
--- the table has the lines, the words have the qubit, and the limit is not below the number of terms
+-- the table has the lines, the words, for at most 256 qubits, have the qubit, and limit is not below the number of lines
 abbrev pub isGiven : ℕ → ℕ → List ℕ → List Float → Start → Bool
 isGiven w limit keys weights (Lines k) = leb k limit && (leb k (length keys / (2 * w)) && leb k (length weights))
 isGiven w limit keys weights (Alone i) = leb 1 limit && ltb i (length keys / (2 * w))
 isGiven w limit keys weights (Z q t) = leb 1 limit && (leb w 4 && ltb q (64 * w))
 
--- "7. .. for twice limit rows"
+-- 7. "Are there at least 2 × limit rows?"
 abbrev pub isHeld : ℕ → Limits → List ℕ → List Float → Start → ℕ → Bool
 isHeld w l keys weights start rows = isGiven w (l .limit) keys weights start && leb (2 * l .limit) rows
 

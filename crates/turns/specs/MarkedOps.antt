@@ -1,4 +1,4 @@
--- What runs are compared by: ops of one name, the ops that marks set, a property of what a run has come to. Definitions only. Assumes nothing.
+-- What runs are compared by: ops of one name, the ops that marks set, a property of what a run has come to.
 use Prim.Native.Nat.{ℕ}
 use mathlib.Core.Path.{_≡_}
 use mathlib.Core.Bool.{Bool, true, false}
@@ -6,7 +6,7 @@ use mathlib.Core.List.{List, [], _∷_}
 use lib.ListN.{getD}
 use lib.Ieee.{Float}
 use Rattle.numbers.specs.Constants.{zero64}
-use Rattle.terms.proofs.NearLaws.{Each}
+use Rattle.terms.specs.Lists.{Each}
 use Rattle.turns.specs.declared.Op.{Op}
 use Rattle.turns.specs.declared.Op.the-variants.{Native, T, Tdg, Rz, P, Rzz}
 use Rattle.turns.specs.declared.Op.the-variants.{Pauli, Depol, Damp, Phase, Thermal, Depol2, Barrier}

@@ -18,7 +18,7 @@ enum Targets {
     Two(usize, usize),
 }
 
-fn smaller(a: usize, b: usize) -> usize
+pub(crate) fn smaller(a: usize, b: usize) -> usize
     ensures { λ r. ⌜ r ≡ min a b ⌝ }
 {
     if a <= b { a } else { b }

@@ -1,7 +1,7 @@
 // Runs over the ops that marks set, from the last to the first.
 ghost use mathlib.Core.Path.{_≡_};
 ghost use mathlib.Core.Bool.{true};
-ghost use Prim.Native.Nat.{_*_, _≤_, min};
+ghost use Prim.Native.Nat.{_*_, _≤_};
 ghost use lib.ListN.{length, take};
 ghost use Rattle.rows.specs.Rows.{rowsIn};
 ghost use Rattle.turns.specs.Turn.{bind};
@@ -14,16 +14,11 @@ use crate::Op;
 use crate::Start;
 use crate::Turned;
 use crate::finish;
+use crate::marks::smaller;
 use crate::starts;
 use crate::turn;
 use rows::clear::clear_rows;
 use rows::row;
-
-fn smaller(a: usize, b: usize) -> usize
-    ensures { λ r. ⌜ r ≡ min a b ⌝ }
-{
-    if a <= b { a } else { b }
-}
 
 // The turns of the first n ops that the marks set.
 fn run_rows(

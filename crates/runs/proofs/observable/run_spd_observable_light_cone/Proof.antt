@@ -6,6 +6,7 @@ use lib.ListN.{length, take, replicate, length-replicate}
 use denote.Ref.{now}
 use Rattle.turns.specs.Marks.{overlay, coneMarks, lettersIn}
 use Rattle.turns.proofs.MarkLaws.{length-cone}
+use Rattle.runs.proofs.ConeCode.{cone-ran}
 use Rattle.runs.proofs.SumLaws.{sum-marked, few-ops}
 use borrow.Author.Needs.{needs}
 use Rattle.runs.proofs.observable.run_spd_observable_light_cone.Statement.{statement}
@@ -14,8 +15,9 @@ use Rattle.runs.proofs.observable.run_spd_observable_light_cone.Tie as 
 returns : tie.Need-returns
 returns c = let a = c .before .before .before .before .before .before .before .before .before .before .before .before .before .before .before .before .args in
     let l : length (a .ops) ≡ 4096 = search needs in
-    sum-marked (a .qubits) (a .limits) (now (a .keys)) (now (a .weights)) (a .lines) (take (a .n) (a .ops)) _ (replicate 4096 false) (length-cone _ (take (a .n) (a .ops))) (few-ops (a .n) (a .ops) (replicate 4096 false) l (length-replicate 4096 false))
-    (c .before .before .before .before .before .before .before .before .before .inverse-light-cone .ensures ∙ ap (λ (w : ℕ). overlay (coneMarks (lettersIn w (now (a .keys))) (take (a .n) (a .ops))) (replicate 4096 false)) (c .before .before .before .before .before .before .before .before .before .before .before .width .ensures)) (c .before .before .before .before .run-sum .ensures)
+    cone-ran (a .qubits) (a .limits) (now (a .keys)) (now (a .weights)) (take (a .n) (a .ops)) (a .lines)
+    (sum-marked (a .qubits) (a .limits) (now (a .keys)) (now (a .weights)) (a .lines) (take (a .n) (a .ops)) _ (replicate 4096 false) (length-cone _ (take (a .n) (a .ops))) (few-ops (a .n) (a .ops) (replicate 4096 false) l (length-replicate 4096 false))
+    (c .before .before .before .before .before .before .before .before .before .inverse-light-cone .ensures ∙ ap (λ (w : ℕ). overlay (coneMarks (lettersIn w (now (a .keys))) (take (a .n) (a .ops))) (replicate 4096 false)) (c .before .before .before .before .before .before .before .before .before .before .before .width .ensures)) (c .before .before .before .before .run-sum .ensures))
 
 pub run-spd-observable-light-cone-spec : {M : Type 1} → statement M
 run-spd-observable-light-cone-spec =
