@@ -1,0 +1,15 @@
+-- `write_byte` meets its contract: a byte in the buffer, or past its end. Assumes nothing.
+use denote.Ref.{now}
+use borrow.Author.Needs.{needs}
+use Rattle.replies.proofs.WriteLaws.{one-in, one-past}
+use Rattle.replies.proofs.write.write_byte.Statement.{statement}
+use Rattle.replies.proofs.write.write_byte.Tie as tie
+
+returns : tie.Need-returns
+returns c = let a = c .before .args in one-in (a .at) (a .b) (now (a .out)) (c .if1 .taken)
+
+returns-2 : tie.Need-returns-2
+returns-2 c = let a = c .before .args in one-past (a .at) (a .b) (now (a .out)) (c .if1 .left)
+
+pub write-byte-spec : {M : Type 1} → statement M
+write-byte-spec = tie.close (tie.spec (λ c. search needs) (λ c. search needs) (λ c. search needs) returns returns-2)
