@@ -4,7 +4,7 @@ pub mod all;
 pub mod counts;
 mod fold;
 pub mod observable;
-mod width;
+pub mod width;
 
 // The runs by their names on a sheet.
 pub enum Run {

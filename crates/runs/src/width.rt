@@ -2,7 +2,7 @@
 ghost use mathlib.Core.Path.{_≡_};
 ghost use Rattle.words.specs.Keys.{widthOf};
 
-pub(crate) fn width(qubits: usize) -> usize
+pub fn width(qubits: usize) -> usize
     ensures { λ r. ⌜ r ≡ widthOf qubits ⌝ }
 {
     if qubits % 64 == 0 {

@@ -11,8 +11,8 @@ use crate::Op;
 use crate::targets;
 use words::keys::get_bit;
 
-// The targets of an op.
-enum Targets {
+// The targets of an op: none, one or two.
+pub enum Targets {
     Nothing,
     One(usize),
     Two(usize, usize),
@@ -128,7 +128,8 @@ fn one_or_two(two: bool, a: usize, b: usize) -> Targets
     }
 }
 
-fn targets_of(op: Op) -> Targets
+// The targets of an op: none, one or two.
+pub fn targets_of(op: Op) -> Targets
     ensures { λ r. ⌜ r ≡ packed (targets op) ⌝ }
 {
     match op {

@@ -1,0 +1,6 @@
+-- Laws of the lines of a sheet.
+pub mod CursorLaws
+pub mod LaidLaws
+pub mod LoadLaws
+pub mod LineLaws
+pub mod HeadLaws

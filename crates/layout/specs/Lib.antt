@@ -1,0 +1,3 @@
+pub mod Layout
+pub mod Cursor
+pub mod Loaded

@@ -1,0 +1,7 @@
+pub mod TestLaws
+pub mod OpLineLaws
+pub mod LineCases
+pub mod FactorLaws
+pub mod DistinctLaws
+pub mod WordLaws
+pub mod BinaryLaws

@@ -1,0 +1,55 @@
+-- `lines::termlines::are_factors` meets its contract: what is left gives the same answer.
+use mathlib.Core.Path.{_≡_, sym, ap, _∙_}
+use mathlib.Core.Bool.{Bool, false, _&&_}
+use borrow.Author.Needs.{needs}
+use borrow.Author.Tests.{not-true, not-false}
+use lib.ListN.{length}
+use Rattle.text.specs.Bytes.{parts, comma}
+use Rattle.lines.specs.TermLines.{areFactors, factorTexts}
+use Rattle.lines.proofs.FactorLaws.{texts-none, texts-some, left-less, at-next, at-last, at-stop}
+use Rattle.lines.proofs.termlines.are_factors.Statement.{statement}
+use Rattle.lines.proofs.termlines.are_factors.Tie as tie
+
+abbrev Inv-loop : tie.InvT-loop
+Inv-loop f rest₀ rest = areFactors (parts comma rest) ≡ areFactors (factorTexts f)
+
+abbrev μ-loop : tie.MeasureT-loop
+μ-loop f rest₀ rest = length rest
+
+returns : tie.Need-returns Inv-loop μ-loop
+unfolding areFactors
+returns c = ap areFactors (texts-none _ (c .if1 .taken))
+
+loop-holds : tie.Need-loop-holds Inv-loop μ-loop
+loop-holds c = ap areFactors (texts-some _ (c .if1 .left))
+
+returns-2 : tie.Need-returns-2 Inv-loop μ-loop
+unfolding areFactors
+returns-2 c =
+    let d = c .before .before in
+    let e = sym (c .before .is-factor .ensures) ∙ not-true _ (c .if2 .taken) in
+    at-stop _ _ (d .part-before .ensures) areFactors _ (d .before .loop .inv) false (λ ps. ap (λ (b : Bool). b && areFactors ps) e)
+
+returns-3 : tie.Need-returns-3 Inv-loop μ-loop
+unfolding areFactors
+returns-3 c =
+    let d = c .before .before .before in
+    let e = sym (c .before .before .is-factor .ensures) ∙ not-false _ (c .before .if2 .left) in
+    at-last _ _ (d .part-before .ensures) areFactors areFactors _ (d .before .loop .inv) (λ ps. ap (λ (b : Bool). b && areFactors ps) e) (c .if3 .taken)
+
+loop-less : tie.Need-loop-less Inv-loop μ-loop
+loop-less c = left-less _ _ (c .before .before .before .before .part-before .ensures) (c .before .if3 .left) _ (c .part-after .ensures)
+
+loop-again : tie.Need-loop-again Inv-loop μ-loop
+unfolding areFactors
+loop-again c =
+    let d = c .before .before .before .before in
+    let e = sym (c .before .before .before .is-factor .ensures) ∙ not-false _ (c .before .before .if2 .left) in
+    at-next _ _ (d .part-before .ensures) areFactors areFactors _ (d .before .loop .inv) (λ ps. ap (λ (b : Bool). b && areFactors ps) e)
+    (c .before .if3 .left) _ (c .part-after .ensures)
+
+pub are-factors-spec : {M : Type 1} → statement M
+are-factors-spec =
+    tie.close
+    (tie.spec Inv-loop μ-loop returns loop-holds (λ c κs. search needs) (λ c κs. search needs) returns-2 returns-3 (λ c κs. search needs) loop-less
+    loop-again)

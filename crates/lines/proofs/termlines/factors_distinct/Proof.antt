@@ -1,0 +1,7 @@
+-- `lines::termlines::factors_distinct` meets its contract.
+use borrow.Author.Needs.{needs}
+use Rattle.lines.proofs.termlines.factors_distinct.Statement.{statement}
+use Rattle.lines.proofs.termlines.factors_distinct.Tie as tie
+
+pub factors-distinct-spec : {M : Type 1} → statement M
+factors-distinct-spec = tie.close (tie.spec (λ c κs. search needs) (λ c κs. search needs) (λ c. cc))

@@ -1,0 +1,11 @@
+pub mod Cases
+pub mod OpLaws
+pub mod HeadLaws
+pub mod PassLaws
+pub mod SheetDemand
+pub mod SheetConeCases
+pub mod FirstLaws
+pub mod RunLaws
+pub mod OutcomeLaws
+pub mod VerdictLaws
+pub mod AnswerLaws

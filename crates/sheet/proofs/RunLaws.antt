@@ -1,0 +1,149 @@
+-- The run of a sheet, from the contracts of the four runs. Assumes nothing.
+use mathlib.Core.Path.{_≡_, refl, sym, ap, ap₂, _∙_, subst}
+use Prim.Native.Nat.{ℕ, _*_}
+use mathlib.Core.Bool.{Bool, true, false, cond, _&&_}
+use mathlib.Core.List.{List, [], _++_}
+use lib.Dec.{leb, eqb}
+use lib.IntN.{ℤ}
+use lib.ListN.{length, take, drop}
+use lib.Ieee.{Float}
+use mir.Syntax.{w64}
+use mir.Val.{SFits, toZ, ofZ}
+use mir.ValLaws.{toZ-ofZ}
+use borrow.Author.Tests.{eqb-true}
+use Rattle.numbers.specs.Shown.{shownOf}
+use Rattle.words.specs.Keys.{widthOf}
+use Rattle.terms.specs.Lists.{tab}
+use Rattle.terms.proofs.CaseLaws.{and-true}
+use Rattle.terms.proofs.ListLaws.{length-tab}
+use Rattle.rows.specs.Rows.{rowsIn, wordsWith, coeffsWith}
+use Rattle.turns.specs.declared.Ending.{Ending}
+use Rattle.turns.specs.declared.Ending.the-variants.{Done, Failed}
+use Rattle.turns.specs.declared.Limits.{Limits}
+use Rattle.turns.specs.declared.Op.{Op}
+use Rattle.turns.specs.declared.Start.the-variants.{Lines}
+use Rattle.turns.specs.declared.Tally.{Tally}
+use Rattle.turns.specs.Turn.{Stage, Outcome, ask}
+use Rattle.turns.specs.Told.{endingOf, leftBy, Ran}
+use Rattle.turns.specs.Given.{isGiven, isHeld}
+use Rattle.turns.specs.Runs.{markAll, markPath, markCone}
+use Rattle.runs.specs.declared.Run.{Run}
+use Rattle.runs.specs.declared.Run.the-variants.{Full, Cone, All, Path}
+use Rattle.runs.specs.Task.{Task, passes, question2, question3, channelFree}
+use Rattle.runs.specs.Outcome.{outcomeOf, sumRun, observed, allRuns}
+use Rattle.runs.specs.Table.{lineAt, sumAsked, SumRan, ConeRan}
+use Rattle.runs.specs.Means.{allTask, fitsAll, roomAll, allHeld, allAsked, meansOf, AllRan}
+use Rattle.layout.specs.declared.Head.{Head}
+use Rattle.replies.specs.declared.Reply.{Reply}
+use Rattle.terms.specs.Term.{Term}
+use Rattle.sheet.specs.Questions.{placesFit, question7}
+use Rattle.sheet.specs.Answer.{reply, refusal, meansAfter, Leaves}
+use Rattle.sheet.specs.Running.{meansCount, replyEnd, limitsOf, tableTask, tableRun, Runnable, Ended}
+
+-- ---- the reply
+pub reply-failed : (run : Run) (q t n : ℕ) (end : Ending) (r : Reply) → end ≡ Failed n → r ≡ refusal n 0 → r ≡ replyEnd run q t end
+reply-failed run q t n end r e f = f ∙ ap (replyEnd run q t) (sym e)
+
+pub reply-done : (run : Run) (q t n k : ℕ) (m : Float) (u : Tally) (s : ℤ) (end : Ending) → SFits w64 s → end ≡ Done m n u → s ≡ shownOf m → k ≡ meansCount run q
+    → reply 0 0 m (toZ w64 (ofZ w64 s)) t (u .peak) (u .discarded) k ≡ replyEnd run q t end
+reply-done run q t n k m u s end fits e f g =
+    ap (λ (x : ℤ). reply 0 0 m x t (u .peak) (u .discarded) k) (toZ-ofZ w64 s fits ∙ f) ∙ ap (reply 0 0 m (shownOf m) t (u .peak) (u .discarded)) g ∙ ap (replyEnd run q t) (sym e)
+
+middle : (a b c d e : Bool) → (a && b && (c && d) && e) ≡ true → (c && b) ≡ true
+middle a b c d e h = let p = and-true (a && b) (c && d) (and-true (a && b && (c && d)) e h .0) in ap₂ _&&_ (and-true c d (p .1) .0) (and-true a b (p .0) .1)
+
+-- ---- a run that is held is the run that was asked for
+module _ (h : Head) (keys : List ℕ) (weights : List Float) (os : List Op) (ws : List ℕ) (cs m : List Float) (ok : Runnable h keys weights os ws cs m) where
+  abbrev w : ℕ
+  w = widthOf (h .qubits)
+
+  abbrev R : ℕ
+  R = rowsIn w ws cs
+
+  abbrev t : Task
+  t = tableTask h keys weights os
+
+  rows-fit : leb (2 * h .limit) R ≡ true
+  rows-fit = and-true (leb (2 * h .limit) R) _ (ok .room) .0
+
+  module _ (l : Limits) (el : l ≡ limitsOf h) (ms : List Bool) {r : Ending} {ws′ : List ℕ} {cs′ : List Float} (given : SumRan (h .qubits) l keys weights (h .terms) (take (h .ops) os) ms r ws ws′ cs cs′) where
+    ran : SumRan (h .qubits) (limitsOf h) keys weights (h .terms) (take (h .ops) os) ms r ws ws′ cs cs′
+    ran = subst (λ (x : Limits). SumRan (h .qubits) x keys weights (h .terms) (take (h .ops) os) ms r ws ws′ cs cs′) el given
+
+    is-held : isHeld w (limitsOf h) keys weights (Lines (h .terms)) R ≡ true
+    is-held = ap₂ _&&_ (ok .given) rows-fit
+
+    is-run : sumAsked (h .qubits) (limitsOf h) keys weights (h .terms) (take (h .ops) os) ms R ≡ sumRun t ms
+    is-run = ap (λ (b : Bool). ask 2 b (ask 7 (leb (2 * h .limit) R) (sumRun t ms))) (ok .given) ∙ ap (λ (b : Bool). ask 7 b (sumRun t ms)) rows-fit
+
+    pub sum-ended : tableRun h keys weights os ≡ sumRun t ms → meansAfter (h .run) (h .qubits) (tableRun h keys weights os) m ≡ m → Ended h (tableRun h keys weights os) r ws ws′ cs cs′ m m
+    sum-ended e f =
+        let g = is-run ∙ sym e in
+        record {
+          answer = ran .answer ∙ ap endingOf g;
+          memory = record {
+            words = ran .words ∙ ap₂ (λ (b : Bool) (s : Stage Outcome). cond b (wordsWith w R (leftBy s) ws) ws) is-held g;
+            coeffs = ran .coeffs ∙ ap₂ (λ (b : Bool) (s : Stage Outcome). cond b (coeffsWith R (leftBy s) cs) cs) is-held g;
+            means = sym f;
+          };
+        }
+
+    pub full-ended : h .run ≡ Full → ms ≡ markAll (take (h .ops) os) → Ended h (tableRun h keys weights os) r ws ws′ cs cs′ m m
+    full-ended e k = sum-ended (ap (λ (x : Run). outcomeOf x t) e ∙ ap (sumRun t) (sym k)) (ap (λ (x : Run). meansAfter x (h .qubits) (tableRun h keys weights os) m) e)
+
+    pub path-ended : h .run ≡ Path → ms ≡ markPath (take (h .ops) os) → Ended h (tableRun h keys weights os) r ws ws′ cs cs′ m m
+    path-ended e k = sum-ended (ap (λ (x : Run). outcomeOf x t) e ∙ ap (sumRun t) (sym k)) (ap (λ (x : Run). meansAfter x (h .qubits) (tableRun h keys weights os) m) e)
+
+    cone-run : h .run ≡ Cone → ms ≡ markCone (observed t) (take (h .ops) os) → Ended h (tableRun h keys weights os) r ws ws′ cs cs′ m m
+    cone-run e k = sum-ended (ap (λ (x : Run). outcomeOf x t) e ∙ ap (sumRun t) (sym k)) (ap (λ (x : Run). meansAfter x (h .qubits) (tableRun h keys weights os) m) e)
+
+  pub cone-ended : (l : Limits) → l ≡ limitsOf h → {r : Ending} {ws′ : List ℕ} {cs′ : List Float} → ConeRan (h .qubits) l keys weights (h .terms) (take (h .ops) os) r ws ws′ cs cs′
+      → h .run ≡ Cone → Ended h (tableRun h keys weights os) r ws ws′ cs cs′ m m
+  cone-ended l el {r} {ws′} {cs′} given e =
+      let ran = subst (λ (x : Limits). ConeRan (h .qubits) x keys weights (h .terms) (take (h .ops) os) r ws ws′ cs cs′) el given in
+      cone-run (limitsOf h) refl _ (ran .cone (sym (ap (λ (x : Run). passes x t) e) ∙ ok .pass)) e refl
+
+  -- ---- `all`, which has no terms
+  module _ (e : h .run ≡ All) where
+    all-passes : passes All t ≡ true
+    all-passes = sym (ap (λ (x : Run). passes x t) e) ∙ ok .pass
+
+    no-lines : h .terms ≡ 0
+    unfolding question3
+    no-lines =
+        let p = and-true (question2 t && question3 All t) _ all-passes .0 in
+        let q = and-true (question2 t) (question3 All t) p .1 in
+        sym (length-tab (h .terms) (lineAt w keys weights)) ∙ eqb-true _ 0 (and-true (eqb (length (t .lines)) 0) (channelFree t) q .0)
+
+    all-task : allTask (h .qubits) (limitsOf h) (take (h .ops) os) ≡ t
+    unfolding tab
+    all-task = ap (λ (k : ℕ). record { qubits = h .qubits; limits = limitsOf h; lines = tab k (lineAt w keys weights); ops = take (h .ops) os }) (sym no-lines)
+
+    few : fitsAll (h .qubits) (limitsOf h) ≡ true
+    unfolding question2
+    few = middle (leb 1 (h .qubits)) (leb (h .qubits) 256) (leb 1 (h .limit)) (leb (h .limit) 1048576) _ (and-true (question2 t) (question3 All t) (and-true (question2 t && question3 All t) _ all-passes .0) .0)
+
+    room : roomAll (h .qubits) (limitsOf h) R (length m) ≡ true
+    room = sym (ap (λ (x : Run). leb (2 * h .limit) R && placesFit x (h .qubits) (length m)) e) ∙ ok .room
+
+    all-run : allAsked (h .qubits) (limitsOf h) (take (h .ops) os) R (length m) ≡ tableRun h keys weights os
+    all-run =
+        ap (λ (b : Bool). ask 2 b (ask 7 (roomAll (h .qubits) (limitsOf h) R (length m)) (allRuns (allTask (h .qubits) (limitsOf h) (take (h .ops) os)) (h .qubits)))) few
+        ∙ ap (λ (b : Bool). ask 7 b (allRuns (allTask (h .qubits) (limitsOf h) (take (h .ops) os)) (h .qubits))) room
+        ∙ ap (λ (x : Task). allRuns x (h .qubits)) all-task ∙ sym (ap (λ (x : Run). outcomeOf x t) e)
+
+    pub all-ended : (l : Limits) → l ≡ limitsOf h → {r : Ending} {ws′ : List ℕ} {cs′ m′ : List Float}
+        → AllRan (h .qubits) (allHeld (h .qubits) l R (length m)) (allAsked (h .qubits) l (take (h .ops) os) R (length m)) r ws ws′ cs cs′ m m′
+        → leftBy (tableRun h keys weights os) ≡ [] → Ended h (tableRun h keys weights os) r ws ws′ cs cs′ m m′
+    all-ended l el {r} {ws′} {cs′} {m′} given none =
+        let ran = subst (λ (x : Limits). AllRan (h .qubits) (allHeld (h .qubits) x R (length m)) (allAsked (h .qubits) x (take (h .ops) os) R (length m)) r ws ws′ cs cs′ m m′) el given in
+        let held : allHeld (h .qubits) (limitsOf h) R (length m) ≡ true = ap₂ _&&_ few room in
+        record {
+          answer = ran .answer ∙ ap endingOf all-run;
+          memory = record {
+            words = ran .words ∙ ap (λ (b : Bool). cond b (wordsWith w R [] ws) ws) held ∙ sym (ap (λ (l : List Term). wordsWith w R l ws) none);
+            coeffs = ran .coeffs ∙ ap (λ (b : Bool). cond b (coeffsWith R [] cs) cs) held ∙ sym (ap (λ (l : List Term). coeffsWith R l cs) none);
+            means = ran .means ∙ ap₂ (λ (b : Bool) (s : Stage Outcome). cond b (meansOf (h .qubits) s ++ drop (h .qubits) m) m) held all-run
+                ∙ sym (ap (λ (x : Run). meansAfter x (h .qubits) (tableRun h keys weights os) m) e);
+          };
+        }

@@ -1,0 +1,56 @@
+-- Words of the private contracts: how the questions are asked.
+use mathlib.Core.Path.{_≡_}
+use Prim.Native.Nat.{ℕ, _+_, _≤_}
+use mathlib.Core.Bool.{Bool, cond, _&&_}
+use mathlib.Core.List.{List}
+use lib.Dec.{ltb}
+use lib.ListN.{take}
+use Rattle.turns.specs.declared.Op.{Op}
+use Rattle.layout.specs.declared.Head.{Head}
+use Rattle.lines.specs.TermLines.{TermLine, qubitsIn, allBelow, distinct}
+use Rattle.layout.specs.Layout.{question1, termLines, opList}
+use Rattle.sheet.specs.declared.Asked.{Asked}
+use Rattle.sheet.specs.declared.Asked.the-variants.{Two, Three, Four, Five, Six}
+use Rattle.sheet.specs.declared.Verdict.{Verdict}
+use Rattle.sheet.specs.declared.Verdict.the-variants.{RefusedAt, Passed}
+use Rattle.sheet.specs.Questions.{questionOf, firstOf, lineOf, refusedOr, question7}
+
+-- the test of a `term` line. Question 6 is put after 5, so its test may take every qubit for one below 256.
+abbrev pub termTest : Asked → Head → TermLine → Bool
+termTest Two h l = questionOf Two h .term l
+termTest Three h l = questionOf Three h .term l
+termTest Four h l = questionOf Four h .term l
+termTest Five h l = questionOf Five h .term l
+termTest Six h l = let qs = qubitsIn (l .factors) in allBelow 256 qs && distinct qs
+
+-- what questions 3 to 7 may rely on: the sheet passes 1 and 2, and its op list is in a table
+pub record Sound (h : Head) (ls : List (List ℕ)) (os : List Op) : Type 0 where
+  pub laid : question1 h ls ≡ 0
+  pub qubits : h .qubits ≤ 256
+  pub limit : h .limit ≤ 1048576
+  pub terms : h .terms ≤ 1024
+  pub ops : h .ops ≤ 4096
+  pub table : take (h .ops) os ≡ opList h ls
+
+-- one question: and the test of the `term` lines is its own
+pub record Ready (asked : Asked) (h : Head) (ls : List (List ℕ)) (os : List Op) : Type 0 where
+  pub sound : Sound h ls os
+  pub test : firstOf (termTest asked h) 7 (termLines h ls) ≡ firstOf (questionOf asked h .term) 7 (termLines h ls)
+
+-- question 2 asks nothing of a `term` or an `op` line, so its answer is the same for all of them
+abbrev pub IsSecond : Head → ℕ → Type 0
+IsSecond h r = (ls : List (List ℕ)) → r ≡ lineOf Two h ls
+
+-- questions 1 and 2, and then 3 to 7
+abbrev pub earlyVerdict : Head → List (List ℕ) → Verdict
+earlyVerdict h ls = refusedOr 1 (question1 h ls) (refusedOr 2 (lineOf Two h ls) Passed)
+
+abbrev pub roomVerdict : Head → ℕ → ℕ → Verdict
+roomVerdict h rows places = cond (question7 h rows places) Passed (RefusedAt 7 0)
+
+abbrev pub laterVerdict : Head → List (List ℕ) → ℕ → ℕ → Verdict
+laterVerdict h ls rows places =
+    refusedOr 3 (lineOf Three h ls)
+    (refusedOr 4 (lineOf Four h ls)
+    (refusedOr 5 (lineOf Five h ls)
+    (refusedOr 6 (lineOf Six h ls) (roomVerdict h rows places))))

@@ -1,0 +1,5 @@
+pub mod Questions
+pub mod Answer
+pub mod SheetCone
+pub mod Asking
+pub mod Running

@@ -1,0 +1,97 @@
+// The first line of a sheet at which the answer to a question is no.
+ghost use mathlib.Core.Path.{_≡_};
+ghost use Prim.Native.Nat.{_+_, _≤_};
+ghost use lib.ListN.{take};
+ghost use Rattle.text.specs.Bytes.{parts, newline};
+ghost use Rattle.layout.specs.Layout.{question1, termLines};
+ghost use Rattle.sheet.specs.Questions.{questionOf, firstOf, opsLine, lineOf};
+ghost use Rattle.sheet.specs.Asking.{termTest, Ready};
+use crate::Asked;
+use crate::headtests::head_line;
+use crate::headtests::ops_fit;
+use crate::optests;
+use crate::termtests::term_fits;
+use layout::Head;
+use layout::cursor::line_at;
+use layout::cursor::next_at;
+use layout::cursor::start_at;
+use turns::Op;
+
+fn op_fits(asked: Asked, head: Head, op: Op) -> bool
+    ensures { λ r. ⌜ r ≡ questionOf asked head .op op ⌝ }
+{
+    let run = head.run;
+    let qubits = head.qubits;
+    match asked {
+        Asked::Two => true,
+        Asked::Three => optests::channel_fits(run, op),
+        Asked::Four => optests::reals_fit(op),
+        Asked::Five => optests::targets_below(op, qubits),
+        Asked::Six => optests::targets_distinct(op),
+    }
+}
+
+// The first of the n ops in a table that fails, where the first of them stands at line k.
+fn first_op(asked: Asked, head: Head, ops: [Op; 4096], n: usize, k: usize) -> usize
+    requires { ⌜ (n ≤ 4096) × (k ≤ 2000) ⌝ }
+    ensures { λ r. ⌜ r ≡ firstOf (questionOf asked head .op) k (take n ops) ⌝ }
+{
+    let mut i = 0;
+    while i < n {
+        let op = ops[i];
+        if !op_fits(asked, head, op) {
+            return k + i;
+        }
+        i += 1;
+    }
+    0
+}
+
+// The line `ops`, or the first op that fails.
+fn ops_line(asked: Asked, head: Head, ops: [Op; 4096]) -> usize
+    requires { ⌜ (head .ops ≤ 4096) × (head .terms ≤ 1024) ⌝ }
+    ensures { λ r. ⌜ r ≡ opsLine (questionOf asked head) (head .terms) (take (head .ops) ops) ⌝ }
+{
+    let terms = head.terms;
+    let n = head.ops;
+    if !ops_fit(asked, head) {
+        return 7 + terms;
+    }
+    first_op(asked, head, ops, n, 8 + terms)
+}
+
+// The first `term` line that fails.
+fn first_term(asked: Asked, head: Head, s: &[u8]) -> usize
+    requires { ⌜ (question1 head (parts newline (now s)) ≡ 0) × (head .terms ≤ 1024) ⌝ }
+    ensures { λ r. ⌜ r ≡ firstOf (termTest asked head) 7 (termLines head (parts newline (now (s .entry)))) ⌝ }
+{
+    let terms = head.terms;
+    let mut at = start_at(s, 0, 6);
+    let mut i = 0;
+    while i < terms {
+        let l = line_at(s, at);
+        if !term_fits(asked, head, l) {
+            return 7 + i;
+        }
+        let next = next_at(s, at);
+        at = next;
+        i += 1;
+    }
+    0
+}
+
+// The first line of the sheet that fails, or 0.
+pub(crate) fn first_line(asked: Asked, head: Head, s: &[u8], ops: [Op; 4096]) -> usize
+    requires { ⌜ Ready asked head (parts newline (now s)) ops ⌝ }
+    ensures { λ r. ⌜ r ≡ lineOf asked head (parts newline (now (s .entry))) ⌝ }
+{
+    let a = head_line(asked, head);
+    if a != 0 {
+        return a;
+    }
+    let b = first_term(asked, head, s);
+    if b != 0 {
+        return b;
+    }
+    ops_line(asked, head, ops)
+}
