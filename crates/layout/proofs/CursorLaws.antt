@@ -4,13 +4,13 @@ use Prim.Native.Nat.{ℕ, zero, suc, _+_, _-_, _<_, _≤_}
 use native.Mathlib.Numerals.{add-one}
 use native.Mathlib.Nat.{add-zero, add-suc}
 use native.Mathlib.Omega.{arith}
-use mathlib.Core.Bool.{Bool, true, false, cond}
+use mathlib.Core.Bool.{Bool, true, false}
 use mathlib.Core.List.{List, [], _∷_}
 use lib.Dec.{ltb}
-use lib.ListN.{length, take, drop, getD, drop-of-length-le}
+use lib.ListN.{length, drop, getD, drop-of-length-le}
 use borrow.Author.Tests.{lt-ltb, le-ltb, ltb-true, ltb-false}
-use Rattle.text.specs.Bytes.{parts, onFirst, index, before, newline}
-use Rattle.text.proofs.PartLaws.{cursor-step, cursor-last, cursor-in, here}
+use Rattle.text.specs.Bytes.{parts, index, before, newline}
+use Rattle.text.proofs.PartLaws.{cursor-step, cursor-last, here}
 use Rattle.layout.specs.Cursor.{lineAt, nextAt, startAt}
 
 -- r is the text from a place on, m where its first byte 10 stands

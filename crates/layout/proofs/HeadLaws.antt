@@ -7,7 +7,6 @@ use lib.ListN.{getD}
 use Rattle.text.specs.Bytes.{bytes, parts, newline}
 use Rattle.runs.specs.declared.Run.{Run}
 use Rattle.lines.specs.Fields.{count, realField, runField, orZero, orZeroReal, orFull}
-use Rattle.layout.specs.declared.Head.{Head}
 use Rattle.layout.specs.Cursor.{lineAt, nextAt, startAt}
 use Rattle.layout.specs.Layout.{headOf}
 use Rattle.layout.proofs.CursorLaws.{line-there, start-add}

@@ -1,9 +1,5 @@
 // The lines of a sheet, by the places where they start.
 ghost use mathlib.Core.Path.{_≡_};
-ghost use mathlib.Core.List.{[]};
-ghost use Prim.Native.Nat.{_≤_};
-ghost use lib.ListN.{length, getD};
-ghost use Rattle.text.specs.Bytes.{parts, newline};
 ghost use Rattle.layout.specs.Cursor.{lineAt, nextAt, startAt};
 use text::parts::find;
 use text::parts::part_before;

@@ -1,13 +1,11 @@
 -- What is and what is not an op, computed from the definitions: each text with what is read.
 use Prim.Native.String as string
-use Prim.Native.Nat.{ℕ}
 use mathlib.Core.Path.{_≡_, refl}
 use mathlib.Core.List.{List, [], _∷_, map}
 use lib.Ieee.{Float, ofBits, binary64}
 use Rattle.words.specs.declared.Gate.the-variants.{Id, X, Y, Z, H, S, Sdg, Sx, Sxdg, Cx, Cz, Swap}
 use Rattle.text.specs.Bytes.{bytes, index, begins}
 use Rattle.text.specs.Numerals.{steps, nextDigit, decimal, hexDigit, nextHex, hex16}
-use Rattle.turns.specs.declared.Op.{Op}
 use Rattle.turns.specs.declared.Op.the-variants as O
 use Rattle.lines.specs.declared.OpRead.{OpRead}
 use Rattle.lines.specs.declared.OpRead.the-variants.{IsOp, NotOp}

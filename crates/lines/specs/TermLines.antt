@@ -1,6 +1,6 @@
 -- "`term=WEIGHT:FACTORS`. Factors are X, Y or Z and a qubit, split by commas; none means identity."
 use Prim.Native.Nat.{ℕ}
-use mathlib.Core.Bool.{Bool, true, false, cond, not, _&&_, _||_}
+use mathlib.Core.Bool.{Bool, true, cond, not, _&&_, _||_}
 use mathlib.Core.List.{List, [], _∷_, map}
 use lib.Dec.{ltb, leb, eqb}
 use lib.ListN.{length, drop, getD}

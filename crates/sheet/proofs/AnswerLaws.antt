@@ -1,9 +1,9 @@
 -- The answer to a sheet, from its verdict, its table and its run. Assumes nothing.
 use mathlib.Core.Path.{_≡_, refl, sym, ap, ap₂, _∙_, subst}
-use Prim.Native.Nat.{ℕ, zero, suc, _+_, _*_, _/_, _≤_, _<_}
+use Prim.Native.Nat.{ℕ, zero, suc, _*_, _/_, _≤_}
 use native.Mathlib.Omega.{arith}
 use mathlib.Core.Bool.{Bool, true, false, cond, _&&_}
-use mathlib.Core.List.{List, [], _∷_, map}
+use mathlib.Core.List.{List, map}
 use lib.Dec.{leb, eqb}
 use lib.ListN.{length, take, replicate, length-replicate}
 use lib.Ieee.{Float}
@@ -15,11 +15,9 @@ use Rattle.rows.specs.Rows.{rowsIn}
 use Rattle.text.specs.Bytes.{parts, newline}
 use Rattle.turns.specs.declared.Ending.{Ending}
 use Rattle.turns.specs.declared.Op.{Op}
-use Rattle.turns.specs.declared.Start.the-variants.{Lines}
 use Rattle.turns.specs.Turn.{Stage, Outcome}
 use Rattle.turns.specs.Told.{endingOf}
-use Rattle.turns.specs.Given.{isGiven}
-use Rattle.runs.specs.Task.{Line, Task, passes}
+use Rattle.runs.specs.Task.{Line, passes}
 use Rattle.runs.specs.Outcome.{outcomeOf, tCountOf}
 use Rattle.runs.specs.Table.{lineAt}
 use Rattle.lines.specs.TermLines.{wordLine}
@@ -30,8 +28,8 @@ use Rattle.replies.specs.declared.Reply.{Reply}
 use Rattle.sheet.specs.declared.Asked.the-variants.{Two}
 use Rattle.sheet.specs.declared.Verdict.{Verdict}
 use Rattle.sheet.specs.declared.Verdict.the-variants.{RefusedAt, Passed}
-use Rattle.sheet.specs.Questions.{question2, question7, lineOf, refusedOr, verdict}
-use Rattle.sheet.specs.Answer.{refusal, taskOf, runOf, replyRun, replyTo, replyOf, LeavesBy, Leaves, Untouched, Answered}
+use Rattle.sheet.specs.Questions.{question2, lineOf, refusedOr, verdict}
+use Rattle.sheet.specs.Answer.{refusal, taskOf, runOf, replyTo, replyOf, LeavesBy, Leaves, Answered}
 use Rattle.sheet.specs.Asking.{Sound, earlyVerdict, laterVerdict}
 use Rattle.sheet.specs.Running.{replyEnd, limitsOf, tableTask, tableRun, Runnable, Ended, Cleared, Replied}
 use Rattle.sheet.proofs.PassLaws.{answers-of, yes-of, passed-passes}

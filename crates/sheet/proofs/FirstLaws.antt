@@ -1,22 +1,21 @@
 -- Laws of the first line that fails. Assumes nothing.
 use mathlib.Core.Path.{_≡_, refl, sym, ap, _∙_}
-use Prim.Native.Nat.{ℕ, zero, suc, _+_, _<_, _≤_}
+use Prim.Native.Nat.{ℕ, suc, _+_, _<_, _≤_}
 use native.Mathlib.Numerals.{add-one}
 use native.Mathlib.Nat.{add-zero, add-suc}
 use native.Mathlib.Omega.{arith}
 use mathlib.Core.Bool.{Bool, true, false, cond}
-use mathlib.Core.List.{List, [], _∷_, map}
+use mathlib.Core.List.{List, []}
 use lib.Dec.{eqb}
-use lib.ListN.{length, take, drop, getD, length-map, length-take, drop-of-length-le, List·getD-map}
+use lib.ListN.{length, take, drop, getD, drop-of-length-le, List·getD-map}
 use lib.Seq.{drop-cons, getD-take, getD-drop}
 use borrow.Author.Tests.{ne-eqb}
 use Rattle.text.specs.Bytes.{parts, newline}
 use Rattle.layout.specs.declared.Head.{Head}
-use Rattle.layout.specs.Cursor.{lineAt, nextAt, startAt}
+use Rattle.layout.specs.Cursor.{lineAt, startAt}
 use Rattle.layout.specs.Layout.{question1, termLines, opList}
-use Rattle.layout.proofs.CursorLaws.{line-there, start-next}
-use Rattle.layout.proofs.LaidLaws.{term-lines-length}
-use Rattle.lines.specs.TermLines.{TermLine, lineOn}
+use Rattle.layout.proofs.CursorLaws.{line-there}
+use Rattle.lines.specs.TermLines.{lineOn}
 use Rattle.turns.specs.declared.Op.{Op}
 use Rattle.sheet.specs.declared.Asked.{Asked}
 use Rattle.sheet.specs.Questions.{Question, questionOf, firstOf, _orElse_, headLine, opsLine, lineOf}

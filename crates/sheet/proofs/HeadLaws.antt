@@ -1,7 +1,7 @@
 -- What the questions ask of the lines `qubits` to `terms`, and of `ops`. Assumes nothing.
-use mathlib.Core.Path.{_≡_, refl, sym, ap, _∙_}
+use mathlib.Core.Path.{_≡_, sym, ap, _∙_}
 use Prim.Native.Nat.{ℕ}
-use mathlib.Core.Bool.{Bool, true, false, cond}
+use mathlib.Core.Bool.{Bool, true, false}
 use Rattle.layout.specs.declared.Head.{Head}
 use Rattle.runs.specs.declared.Run.{Run}
 use Rattle.turns.specs.declared.Op.{Op}

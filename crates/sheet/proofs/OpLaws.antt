@@ -1,11 +1,8 @@
 -- What the questions ask of one op, by its targets and its reals. Assumes nothing.
 use mathlib.Core.Path.{_≡_, refl, sym, ap, ap₂, _∙_}
 use Prim.Native.Nat.{ℕ}
-use mathlib.Core.Bool.{Bool, true, false, cond, not, _&&_}
+use mathlib.Core.Bool.{Bool, true, false, cond, _&&_}
 use mathlib.Core.List.{List, [], _∷_}
-use lib.Dec.{ltb, eqb}
-use lib.Ieee.{Float}
-use Rattle.words.specs.declared.Gate.{Gate}
 use Rattle.words.specs.Gates.{hasTwoTargets}
 use Rattle.turns.specs.declared.Op.{Op}
 use Rattle.turns.specs.declared.Op.the-variants.{Native, T, Tdg, Rz, P, Rzz, Pauli, Depol, Damp, Phase, Thermal, Depol2, Barrier}
@@ -13,8 +10,7 @@ use Rattle.turns.specs.declared.marks.Targets.{Targets}
 use Rattle.turns.specs.declared.marks.Targets.the-variants as H
 use Rattle.turns.specs.Ops.{targets}
 use Rattle.turns.specs.Marks.{packed, listOf}
-use Rattle.runs.specs.Task.{every, realsFit, distinctTargets}
-use Rattle.lines.specs.TermLines.{allBelow}
+use Rattle.runs.specs.Task.{every}
 
 pub and-one : (b : Bool) → b ≡ (b && true)
 and-one true = refl

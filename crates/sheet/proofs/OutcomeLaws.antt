@@ -3,10 +3,9 @@ use mathlib.Core.Path.{_≡_, refl, ap, _∙_}
 use Prim.Native.Nat.{ℕ, zero, suc}
 use native.Mathlib.Numerals.{add-one}
 use mathlib.Core.Bool.{Bool, true, false, cond, _&&_}
-use mathlib.Core.List.{List, [], _∷_, _++_}
+use mathlib.Core.List.{List, [], _∷_}
 use lib.Dec.{ltb, eqb}
 use lib.ListN.{length, length-append}
-use lib.Ieee.{Float}
 use Rattle.numbers.specs.Tests.{isFinite}
 use Rattle.turns.specs.declared.Limits.{Limits}
 use Rattle.turns.specs.declared.Op.{Op}
@@ -17,7 +16,7 @@ use Rattle.terms.specs.Mean.{meanOf}
 use Rattle.runs.specs.declared.Run.{Run}
 use Rattle.runs.specs.declared.Run.the-variants.{Full, Cone, All, Path}
 use Rattle.runs.specs.Task.{Line, Task, width}
-use Rattle.runs.specs.Outcome.{startOf, nothingYet, addLine, addNext, alone, foldLines, folded, askTotals, orFold, sumRun, zRun, addZ, allRuns, outcomeOf, tCountOf}
+use Rattle.runs.specs.Outcome.{startOf, nothingYet, addLine, alone, foldLines, folded, askTotals, orFold, sumRun, zRun, addZ, allRuns, outcomeOf, tCountOf}
 use Rattle.sheet.specs.Answer.{replyRun}
 use Rattle.sheet.specs.Running.{meansCount, replyEnd}
 

@@ -1,7 +1,7 @@
 -- The run of a sheet, from the contracts of the four runs. Assumes nothing.
 use mathlib.Core.Path.{_≡_, refl, sym, ap, ap₂, _∙_, subst}
 use Prim.Native.Nat.{ℕ, _*_}
-use mathlib.Core.Bool.{Bool, true, false, cond, _&&_}
+use mathlib.Core.Bool.{Bool, true, cond, _&&_}
 use mathlib.Core.List.{List, [], _++_}
 use lib.Dec.{leb, eqb}
 use lib.IntN.{ℤ}
@@ -24,8 +24,8 @@ use Rattle.turns.specs.declared.Op.{Op}
 use Rattle.turns.specs.declared.Start.the-variants.{Lines}
 use Rattle.turns.specs.declared.Tally.{Tally}
 use Rattle.turns.specs.Turn.{Stage, Outcome, ask}
-use Rattle.turns.specs.Told.{endingOf, leftBy, Ran}
-use Rattle.turns.specs.Given.{isGiven, isHeld}
+use Rattle.turns.specs.Told.{endingOf, leftBy}
+use Rattle.turns.specs.Given.{isHeld}
 use Rattle.turns.specs.Runs.{markAll, markPath, markCone}
 use Rattle.runs.specs.declared.Run.{Run}
 use Rattle.runs.specs.declared.Run.the-variants.{Full, Cone, All, Path}
@@ -36,8 +36,8 @@ use Rattle.runs.specs.Means.{allTask, fitsAll, roomAll, allHeld, allAsked, mean
 use Rattle.layout.specs.declared.Head.{Head}
 use Rattle.replies.specs.declared.Reply.{Reply}
 use Rattle.terms.specs.Term.{Term}
-use Rattle.sheet.specs.Questions.{placesFit, question7}
-use Rattle.sheet.specs.Answer.{reply, refusal, meansAfter, Leaves}
+use Rattle.sheet.specs.Questions.{placesFit}
+use Rattle.sheet.specs.Answer.{reply, refusal, meansAfter}
 use Rattle.sheet.specs.Running.{meansCount, replyEnd, limitsOf, tableTask, tableRun, Runnable, Ended}
 
 -- ---- the reply

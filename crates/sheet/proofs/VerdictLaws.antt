@@ -4,21 +4,18 @@ use Prim.Native.Nat.{ℕ, suc, _+_, _*_, _<_, _≤_}
 use native.Mathlib.Omega.{arith}
 use mathlib.Core.Bool.{Bool, true, false, cond, _&&_}
 use mathlib.Core.List.{List, [], _∷_}
-use lib.Dec.{leb, ltb, eqb}
-use lib.ListN.{length}
+use lib.Dec.{leb, ltb}
 use borrow.Author.Tests.{ne-eqb, eq-eqb, le-leb, lt-leb, leb-true, ltb-true, lt-ltb}
 use Rattle.terms.proofs.CaseLaws.{and-true}
-use Rattle.turns.specs.declared.Op.{Op}
-use Rattle.runs.specs.declared.Run.{Run}
 use Rattle.runs.specs.Task.{every}
 use Rattle.layout.specs.declared.Head.{Head}
-use Rattle.layout.specs.Layout.{question1, termLines, opList}
-use Rattle.lines.specs.TermLines.{TermLine, Factor, qubitsIn, allBelow, distinct}
+use Rattle.layout.specs.Layout.{termLines, opList}
+use Rattle.lines.specs.TermLines.{qubitsIn, allBelow, distinct}
 use Rattle.sheet.specs.declared.Asked.the-variants.{Two, Five, Six}
 use Rattle.sheet.specs.declared.Verdict.{Verdict}
 use Rattle.sheet.specs.declared.Verdict.the-variants.{RefusedAt, Passed}
-use Rattle.sheet.specs.Questions.{Question, question2, question5, question7, placesFit, questionOf, firstOf, unless, _orElse_, headLine, opsLine, lineOf, refusedOr}
-use Rattle.sheet.specs.Asking.{termTest, IsSecond, roomVerdict}
+use Rattle.sheet.specs.Questions.{question2, question5, placesFit, questionOf, firstOf, unless, _orElse_, headLine, opsLine, lineOf, refusedOr, roomVerdict}
+use Rattle.sheet.specs.Asking.{termTest, IsSecond}
 use Rattle.sheet.proofs.FirstLaws.{or-first, or-second}
 use Rattle.sheet.proofs.PassLaws.{yes-of}
 

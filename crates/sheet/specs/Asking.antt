@@ -1,9 +1,8 @@
 -- Words of the private contracts: how the questions are asked.
 use mathlib.Core.Path.{_≡_}
-use Prim.Native.Nat.{ℕ, _+_, _≤_}
-use mathlib.Core.Bool.{Bool, cond, _&&_}
+use Prim.Native.Nat.{ℕ, _≤_}
+use mathlib.Core.Bool.{Bool, _&&_}
 use mathlib.Core.List.{List}
-use lib.Dec.{ltb}
 use lib.ListN.{take}
 use Rattle.turns.specs.declared.Op.{Op}
 use Rattle.layout.specs.declared.Head.{Head}
@@ -12,8 +11,8 @@ use Rattle.layout.specs.Layout.{question1, termLines, opList}
 use Rattle.sheet.specs.declared.Asked.{Asked}
 use Rattle.sheet.specs.declared.Asked.the-variants.{Two, Three, Four, Five, Six}
 use Rattle.sheet.specs.declared.Verdict.{Verdict}
-use Rattle.sheet.specs.declared.Verdict.the-variants.{RefusedAt, Passed}
-use Rattle.sheet.specs.Questions.{questionOf, firstOf, lineOf, refusedOr, question7}
+use Rattle.sheet.specs.declared.Verdict.the-variants.{Passed}
+use Rattle.sheet.specs.Questions.{questionOf, firstOf, lineOf, refusedOr, roomVerdict}
 
 -- the test of a `term` line. Question 6 is put after 5, so its test may take every qubit for one below 256.
 abbrev pub termTest : Asked → Head → TermLine → Bool
@@ -44,9 +43,6 @@ IsSecond h r = (ls : List (List ℕ)) → r ≡ lineOf Two h ls
 -- questions 1 and 2, and then 3 to 7
 abbrev pub earlyVerdict : Head → List (List ℕ) → Verdict
 earlyVerdict h ls = refusedOr 1 (question1 h ls) (refusedOr 2 (lineOf Two h ls) Passed)
-
-abbrev pub roomVerdict : Head → ℕ → ℕ → Verdict
-roomVerdict h rows places = cond (question7 h rows places) Passed (RefusedAt 7 0)
 
 abbrev pub laterVerdict : Head → List (List ℕ) → ℕ → ℕ → Verdict
 laterVerdict h ls rows places =

@@ -1,7 +1,7 @@
 -- "Questions before and during a run": 1 to 7. "Each is put to the whole sheet before the next, 1 to 7; the line returned is the first that
 -- fails, counted from 1."
 use Prim.Native.Nat.{ℕ, suc, _+_, _*_}
-use mathlib.Core.Bool.{Bool, true, false, cond, _&&_}
+use mathlib.Core.Bool.{Bool, true, cond, _&&_}
 use mathlib.Core.List.{List, [], _∷_}
 use lib.Dec.{leb, eqb}
 use lib.Ieee.{Float, eq}
@@ -156,6 +156,9 @@ refusedOr n line v = cond (eqb line 0) v (RefusedAt n line)
 abbrev pub lineOf : Asked → Head → List (List ℕ) → ℕ
 lineOf a h ls = firstNo (questionOf a h) (h .terms) (termLines h ls) (opList h ls)
 
+abbrev pub roomVerdict : Head → ℕ → ℕ → Verdict
+roomVerdict h rows places = cond (question7 h rows places) Passed (RefusedAt 7 0)
+
 unfoldable pub verdict : Head → List (List ℕ) → ℕ → ℕ → Verdict
 verdict h ls rows places =
     refusedOr 1 (question1 h ls)
@@ -163,5 +166,4 @@ verdict h ls rows places =
     (refusedOr 3 (lineOf Three h ls)
     (refusedOr 4 (lineOf Four h ls)
     (refusedOr 5 (lineOf Five h ls)
-    (refusedOr 6 (lineOf Six h ls)
-    (cond (question7 h rows places) Passed (RefusedAt 7 0)))))))
+    (refusedOr 6 (lineOf Six h ls) (roomVerdict h rows places))))))

@@ -2,8 +2,8 @@
 ghost use mathlib.Core.Path.{_≡_};
 ghost use Prim.Native.Nat.{_≤_};
 ghost use Rattle.text.specs.Bytes.{parts, newline};
-ghost use Rattle.sheet.specs.Questions.{placesFit};
-ghost use Rattle.sheet.specs.Asking.{Sound, IsSecond, earlyVerdict, roomVerdict, laterVerdict};
+ghost use Rattle.sheet.specs.Questions.{placesFit, roomVerdict};
+ghost use Rattle.sheet.specs.Asking.{Sound, IsSecond, earlyVerdict, laterVerdict};
 use crate::Asked;
 use crate::Verdict;
 use crate::asking::first_line;

@@ -10,7 +10,7 @@ use Rattle.sheet.specs.Asking.{termTest}
 use Rattle.sheet.specs.Questions.{firstOf}
 use Rattle.text.specs.Bytes.{parts, newline}
 use borrow.Author.Tests.{not-true, not-false}
-use lib.ListN.{drop, length}
+use lib.ListN.{drop}
 use mathlib.Core.List.{[]}
 use mathlib.Core.Path.{_≡_, ap, _∙_}
 use native.Mathlib.Omega.{arith}

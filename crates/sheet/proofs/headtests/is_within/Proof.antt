@@ -1,6 +1,5 @@
 -- `is_within` meets its contract. Assumes nothing.
 use borrow.Author.Tests.{le-leb, lt-leb}
-use borrow.Author.Needs.{needs}
 use Rattle.sheet.proofs.headtests.is_within.Statement.{statement}
 use Rattle.sheet.proofs.headtests.is_within.Tie as tie
 

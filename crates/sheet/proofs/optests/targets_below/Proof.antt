@@ -1,6 +1,5 @@
 -- `targets_below` meets its contract. Assumes nothing.
 use Rattle.lines.specs.TermLines.{allBelow}
-use Rattle.runs.specs.Task.{distinctTargets}
 use Rattle.sheet.proofs.OpLaws.{of-targets}
 use borrow.Author.Needs.{needs}
 use Rattle.sheet.proofs.optests.targets_below.Statement.{statement}

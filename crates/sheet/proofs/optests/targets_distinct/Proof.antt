@@ -1,5 +1,4 @@
 -- `targets_distinct` meets its contract. Assumes nothing.
-use Rattle.lines.specs.TermLines.{allBelow}
 use Rattle.runs.specs.Task.{distinctTargets}
 use Rattle.sheet.proofs.OpLaws.{of-targets}
 use borrow.Author.Needs.{needs}

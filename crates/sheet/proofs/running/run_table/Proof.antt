@@ -6,7 +6,7 @@ use Rattle.sheet.proofs.RunLaws.{full-ended, path-ended, cone-ended, al
 use Rattle.sheet.specs.Running.{tableTask}
 use Rattle.turns.specs.Told.{leftBy}
 use denote.Ref.{now}
-use mathlib.Core.Path.{refl, sym, ap, _∙_}
+use mathlib.Core.Path.{refl, ap, _∙_}
 use borrow.Author.Needs.{needs}
 use Rattle.sheet.proofs.running.run_table.Statement.{statement}
 use Rattle.sheet.proofs.running.run_table.Tie as tie

@@ -3,7 +3,7 @@ use Rattle.sheet.proofs.VerdictLaws.{refused-here, passed-on, sixth-tes
 use Rattle.sheet.specs.Questions.{lineOf}
 use Rattle.sheet.specs.declared.Asked.the-variants.{Three, Four, Five, Six}
 use Rattle.text.specs.Bytes.{parts, newline}
-use mathlib.Core.Path.{refl, sym, _∙_}
+use mathlib.Core.Path.{sym, _∙_}
 use borrow.Author.Needs.{needs}
 use Rattle.sheet.proofs.verdicts.later_verdict.Statement.{statement}
 use Rattle.sheet.proofs.verdicts.later_verdict.Tie as tie
