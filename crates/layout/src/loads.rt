@@ -1,15 +1,16 @@
 // The op list of a sheet as an array, and its `term` lines as a table.
 ghost use mathlib.Core.Path.{_≡_};
-ghost use Prim.Native.Nat.{_+_, _*_, _≤_, _<_, min};
+ghost use mathlib.Core.List.{_++_};
+ghost use Prim.Native.Nat.{_+_, _-_, _*_, _≤_, _<_, min};
 ghost use lib.Dec.{leb};
-ghost use lib.ListN.{length, take, set};
+ghost use lib.ListN.{length, set, replicate};
 ghost use Rattle.text.specs.Bytes.{parts, newline};
 ghost use Rattle.terms.specs.Lists.{tab, foldl};
 ghost use Rattle.rows.specs.Rows.{keyAt, putKey};
 ghost use Rattle.lines.specs.OpLines.{opOn};
 ghost use Rattle.lines.specs.TermLines.{weightOn, factorsOn, placed};
 ghost use Rattle.layout.specs.Cursor.{lineAt, startAt};
-ghost use Rattle.layout.specs.Loaded.{OpsLoaded, LinesLoaded, Filled};
+ghost use Rattle.layout.specs.Loaded.{loadedOps, keysWith, weightsWith, LinesLoaded};
 use crate::Head;
 use crate::cursor::line_at;
 use crate::cursor::next_at;
@@ -27,10 +28,10 @@ fn smaller(a: usize, b: usize) -> usize
     if a <= b { a } else { b }
 }
 
-// The ops on the n lines from a place on, in the first n places.
+// The ops on the n lines from a place on, in the first n places, and the gate id on qubit 0 in the others.
 fn ops_from(s: &[u8], start: usize, n: usize) -> [Op; 4096]
     requires { ⌜ n ≤ 4096 ⌝ }
-    ensures { λ r. ⌜ take n r ≡ tab n (λ j. opOn (lineAt (now (s .entry)) (startAt (now (s .entry)) start j))) ⌝ }
+    ensures { λ r. ⌜ r ≡ tab n (λ j. opOn (lineAt (now (s .entry)) (startAt (now (s .entry)) start j))) ++ replicate (4096 - n) (Op.Native Gate.Id 0 0) ⌝ }
 {
     let mut ops = [Op::Native(Gate::Id, 0, 0); 4096];
     let mut at = start;
@@ -44,9 +45,9 @@ fn ops_from(s: &[u8], start: usize, n: usize) -> [Op; 4096]
     ops
 }
 
-// The ops of a sheet, at most 4096 of them.
+// The ops of a sheet, at most 4096 of them, and the gate id on qubit 0 in the other places.
 pub fn load_ops(s: &[u8], head: Head) -> [Op; 4096]
-    ensures { λ r. ⌜ OpsLoaded head (parts newline (now (s .entry))) r ⌝ }
+    ensures { λ r. ⌜ r ≡ loadedOps head (parts newline (now (s .entry))) ⌝ }
 {
     let terms = head.terms;
     let ops = head.ops;
@@ -70,7 +71,8 @@ fn fill_line(l: &[u8], w: usize, i: usize, keys: &mut [u64], weights: &mut [f64]
 // Writes the n lines after the first 6 to the first n lines of a table.
 fn fill_lines(s: &[u8], n: usize, w: usize, keys: &mut [u64], weights: &mut [f64])
     requires { ⌜ (n * (2 * w) ≤ length (now keys)) × (n ≤ length (now weights)) ⌝ }
-    ensures { λ _. ⌜ Filled w n (parts newline (now (s .entry))) (now (keys .entry)) (now (keys .exit)) (now (weights .entry)) (now (weights .exit)) ⌝ }
+    ensures { λ _. ⌜ (now (keys .exit) ≡ keysWith w n (parts newline (now (s .entry))) (now (keys .entry)))
+        × (now (weights .exit) ≡ weightsWith n (parts newline (now (s .entry))) (now (weights .entry))) ⌝ }
 {
     let mut at = start_at(s, 0, 6);
     let mut i = 0;
@@ -92,8 +94,8 @@ fn holds_rows(len: usize, w: usize, n: usize) -> bool
     n <= rows_of(len, w)
 }
 
-// Writes the `term` lines of a sheet to a table whose words are zero: the word of term line i to the 2 * w words from i * 2 * w on, its
-// weight to place i. If one of the buffers cannot hold all lines, nothing changes.
+// Writes the `term` lines of a sheet to a table: the factors of term line i set their bits in the 2 * w words from i * 2 * w on, which are
+// its word if they were zero, and its weight goes to place i. If one of the buffers cannot hold all lines, nothing changes.
 pub fn load_lines(s: &[u8], head: Head, w: usize, keys: &mut [u64], weights: &mut [f64])
     ensures { λ _. ⌜ LinesLoaded w head (parts newline (now (s .entry))) (now (keys .entry)) (now (keys .exit)) (now (weights .entry)) (now (weights .exit)) ⌝ }
 {

@@ -23,7 +23,8 @@ use Rattle.runs.specs.Table.{lineAt}
 use Rattle.lines.specs.TermLines.{wordLine}
 use Rattle.layout.specs.declared.Head.{Head}
 use Rattle.layout.specs.Layout.{headOf, question1, termLines, opList}
-use Rattle.layout.specs.Loaded.{LinesLoaded, OpsLoaded}
+use Rattle.layout.specs.Loaded.{loadedOps, LinesLoaded}
+use Rattle.layout.proofs.LoadLaws.{ops-loaded, lines-loaded, lines-keys-long, lines-weights-long}
 use Rattle.replies.specs.declared.Reply.{Reply}
 use Rattle.sheet.specs.declared.Asked.the-variants.{Two}
 use Rattle.sheet.specs.declared.Verdict.{Verdict}
@@ -74,7 +75,7 @@ early-refused h ls rows places n k e = go (eqb (question1 h ls) 0) (eqb (lineOf 
     go false y p = p
 
 -- what a sheet that passed 1 and 2 has
-pub laid-sound : (h : Head) (ls : List (List ℕ)) (os : List Op) → earlyVerdict h ls ≡ Passed → OpsLoaded h ls os → Sound h ls os
+pub laid-sound : (h : Head) (ls : List (List ℕ)) (os : List Op) → earlyVerdict h ls ≡ Passed → os ≡ loadedOps h ls → Sound h ls os
 laid-sound h ls os e loaded =
     let s = early-laid h ls e in
     let y = yes-of (question2 h) (h .terms) (termLines h ls) (opList h ls) (s .1) in
@@ -85,7 +86,7 @@ laid-sound h ls os e loaded =
       limit = leb-true (h .limit) 1048576 (and-true (leb 1 (h .limit)) (leb (h .limit) 1048576) (y .limit) .1);
       terms = leb-true (h .terms) 1024 (and-true (leb (h .terms) 1024) (leb (h .terms) (h .limit)) (y .terms) .0);
       ops = few;
-      table = loaded few (s .0);
+      table = ops-loaded h ls os loaded few (s .0);
     }
 
 -- ---- the table holds the lines of a sheet of at most 256 qubits and 1,024 `term` lines
@@ -127,7 +128,7 @@ module _ (h : Head) (ls : List (List ℕ)) (os : List Op) (ws : List ℕ) (cs ms
 
   same-lines : tab (h .terms) (lineAt (widthOf (h .qubits)) keys weights) ≡ map (wordLine (widthOf (h .qubits))) (termLines h ls)
   same-lines =
-      loaded .lines (subst (λ (x : ℕ). h .terms * (2 * widthOf (h .qubits)) ≤ x) (sym keys-are) (room .0)) (subst (λ (x : ℕ). h .terms ≤ x) (sym long) (clear .sound .terms))
+      lines-loaded (widthOf (h .qubits)) h ls (replicate 8192 0) keys weights₀ weights loaded (subst (λ (x : ℕ). h .terms * (2 * widthOf (h .qubits)) ≤ x) (sym keys-are) (room .0)) (subst (λ (x : ℕ). h .terms ≤ x) (sym long) (clear .sound .terms))
       (ap (λ (x : ℕ). replicate x 0) (sym keys-are)) (clear .sound .laid)
 
   same-task : tableTask h keys weights os ≡ taskOf h ls
@@ -142,10 +143,10 @@ module _ (h : Head) (ls : List (List ℕ)) (os : List Op) (ws : List ℕ) (cs ms
   }
     where
       keys-fit : leb (h .terms) (length keys / (2 * widthOf (h .qubits))) ≡ true
-      keys-fit = ap (λ (x : ℕ). leb (h .terms) (x / (2 * widthOf (h .qubits)))) (loaded .keys-long ∙ keys-are) ∙ le-leb _ _ (room .1)
+      keys-fit = ap (λ (x : ℕ). leb (h .terms) (x / (2 * widthOf (h .qubits)))) (lines-keys-long _ h ls _ keys _ weights loaded ∙ keys-are) ∙ le-leb _ _ (room .1)
 
       weights-fit : leb (h .terms) (length weights) ≡ true
-      weights-fit = ap (leb (h .terms)) (loaded .weights-long ∙ long) ∙ le-leb _ _ (clear .sound .terms)
+      weights-fit = ap (leb (h .terms)) (lines-weights-long _ h ls _ keys _ weights loaded ∙ long) ∙ le-leb _ _ (clear .sound .terms)
 
   pub replied : {ws′ : List ℕ} {cs′ ms′ : List Float} (end : Ending) (t : ℕ) (r : Reply) → Ended h (tableRun h keys weights os) end ws ws′ cs cs′ ms ms′ → t ≡ tCountOf (h .run) (take (h .ops) os)
       → r ≡ replyEnd (h .run) (h .qubits) t end → Replied h ls Passed r ws ws′ cs cs′ ms ms′
@@ -157,7 +158,7 @@ module _ (h : Head) (ls : List (List ℕ)) (os : List Op) (ws : List ℕ) (cs ms
       }
 
 -- ---- the steps of `answer`
-pub cleared : (h : Head) (ls : List (List ℕ)) (os : List Op) (ws : List ℕ) (cs ms : List Float) (w rows : ℕ) (v : Verdict) → earlyVerdict h ls ≡ Passed → OpsLoaded h ls os
+pub cleared : (h : Head) (ls : List (List ℕ)) (os : List Op) (ws : List ℕ) (cs ms : List Float) (w rows : ℕ) (v : Verdict) → earlyVerdict h ls ≡ Passed → os ≡ loadedOps h ls
     → w ≡ widthOf (h .qubits) → rows ≡ rowsIn w ws cs → v ≡ laterVerdict h ls rows (length ms) → v ≡ Passed → Cleared h ls os ws cs ms
 cleared h ls os ws cs ms w rows v e loaded ew er ev f = record {
   sound = laid-sound h ls os e loaded;
