@@ -1,5 +1,5 @@
 -- Laws of the first line that fails. Assumes nothing.
-use mathlib.Core.Path.{_≡_, refl, sym, ap, _∙_}
+use mathlib.Core.Path.{_≡_, refl, sym, ap, ap₂, _∙_}
 use Prim.Native.Nat.{ℕ, suc, _+_, _<_, _≤_}
 use native.Mathlib.Numerals.{add-one}
 use native.Mathlib.Nat.{add-zero, add-suc}
@@ -66,23 +66,7 @@ pub ops-next : (q : Question) (t : ℕ) (os : List Op) (r : Bool) (n : ℕ) → 
 ops-next q t os r n e f g = g ∙ sym (ap (λ (b : Bool). cond (eqb (cond b 0 (7 + t)) 0) (firstOf (q .op) (8 + t) os) (cond b 0 (7 + t))) (sym e ∙ f))
 
 -- the lines of the head, the `term` lines, the ops
-module _ (a : Asked) (h : Head) (ls : List (List ℕ)) (os : List Op) (ready : Ready a h ls os) (m : ℕ) (e : m ≡ headLine (questionOf a h)) where
-  rest : ℕ → ℕ
-  rest b = b orElse opsLine (questionOf a h) (h .terms) (opList h ls)
-
-  pub line-one : (m ≡ 0 → ⊥) → m ≡ lineOf a h ls
-  unfolding rest
-  line-one z = or-first (headLine (questionOf a h)) (rest (firstOf (questionOf a h .term) 7 (termLines h ls))) m (sym e) z
-
-  module _ (z : m ≡ 0) (b : ℕ) (f : b ≡ firstOf (termTest a h) 7 (termLines h ls)) where
-    pub line-two : (b ≡ 0 → ⊥) → b ≡ lineOf a h ls
-    unfolding rest
-    line-two y =
-        or-first (firstOf (questionOf a h .term) 7 (termLines h ls)) (opsLine (questionOf a h) (h .terms) (opList h ls)) b (sym (f ∙ ready .test)) y
-        ∙ or-second (headLine (questionOf a h)) (rest (firstOf (questionOf a h .term) 7 (termLines h ls))) (rest (firstOf (questionOf a h .term) 7 (termLines h ls))) (sym e ∙ z) refl
-
-    pub line-three : b ≡ 0 → (n : ℕ) → n ≡ opsLine (questionOf a h) (h .terms) (take (h .ops) os) → n ≡ lineOf a h ls
-    unfolding rest
-    line-three y n g =
-        or-second (firstOf (questionOf a h .term) 7 (termLines h ls)) (opsLine (questionOf a h) (h .terms) (opList h ls)) n (sym (f ∙ ready .test) ∙ y) (sym (g ∙ ap (opsLine (questionOf a h) (h .terms)) (ready .sound .table)))
-        ∙ or-second (headLine (questionOf a h)) (rest (firstOf (questionOf a h .term) 7 (termLines h ls))) (rest (firstOf (questionOf a h .term) 7 (termLines h ls))) (sym e ∙ z) refl
+pub line-is : (a : Asked) (h : Head) (ls : List (List ℕ)) (os : List Op) → Ready a h ls os → (x y z u r : ℕ) → z ≡ opsLine (questionOf a h) (h .terms) (take (h .ops) os)
+    → y ≡ firstOf (termTest a h) 7 (termLines h ls) → x ≡ headLine (questionOf a h) → u ≡ (y orElse z) → r ≡ (x orElse u) → r ≡ lineOf a h ls
+line-is a h ls os ready x y z u r ez ey ex eu er =
+    er ∙ ap₂ _orElse_ ex (eu ∙ ap₂ _orElse_ (ey ∙ ready .test) (ez ∙ ap (opsLine (questionOf a h) (h .terms)) (ready .sound .table)))

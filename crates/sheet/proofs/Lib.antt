@@ -9,3 +9,5 @@ pub mod RunLaws
 pub mod OutcomeLaws
 pub mod VerdictLaws
 pub mod AnswerLaws
+pub mod ScreenLaws
+pub mod LengthLaws

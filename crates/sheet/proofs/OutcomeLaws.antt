@@ -3,9 +3,10 @@ use mathlib.Core.Path.{_≡_, refl, ap, _∙_}
 use Prim.Native.Nat.{ℕ, zero, suc}
 use native.Mathlib.Numerals.{add-one}
 use mathlib.Core.Bool.{Bool, true, false, cond, _&&_}
-use mathlib.Core.List.{List, [], _∷_}
+use mathlib.Core.List.{List, [], _∷_, _++_}
 use lib.Dec.{ltb, eqb}
 use lib.ListN.{length, length-append}
+use lib.Ieee.{Float}
 use Rattle.numbers.specs.Tests.{isFinite}
 use Rattle.turns.specs.declared.Limits.{Limits}
 use Rattle.turns.specs.declared.Op.{Op}
@@ -16,12 +17,12 @@ use Rattle.terms.specs.Mean.{meanOf}
 use Rattle.runs.specs.declared.Run.{Run}
 use Rattle.runs.specs.declared.Run.the-variants.{Full, Cone, All, Path}
 use Rattle.runs.specs.Task.{Line, Task, width}
-use Rattle.runs.specs.Outcome.{startOf, nothingYet, addLine, alone, foldLines, folded, askTotals, orFold, sumRun, zRun, addZ, allRuns, outcomeOf, tCountOf}
+use Rattle.runs.specs.Outcome.{startOf, nothingYet, addLine, addNext, alone, foldLines, folded, askTotals, orFold, sumRun, zRun, addZ, allRuns, outcomeOf, tCountOf}
 use Rattle.sheet.specs.Answer.{replyRun}
 use Rattle.sheet.specs.Running.{meansCount, replyEnd}
 
 -- so many means, if the run succeeds
-abbrev HasMeans : ℕ → Stage Outcome → Type 0
+abbrev pub HasMeans : ℕ → Stage Outcome → Type 0
 HasMeans n (refused k) = Unit {0}
 HasMeans n (going o) = length (o .means) ≡ n
 
@@ -105,7 +106,7 @@ all-left t k = go (allRuns t k) (all-terms t k)
     go (going o) h = h
 
 -- ---- the reply that the end of a run stands for
-outcome-means : (r : Run) (t : Task) → HasMeans (meansCount r (t .qubits)) (outcomeOf r t)
+pub outcome-means : (r : Run) (t : Task) → HasMeans (meansCount r (t .qubits)) (outcomeOf r t)
 outcome-means Full t = sum-means t _
 outcome-means Cone t = sum-means t _
 outcome-means All t = all-means t (t .qubits)

@@ -4,7 +4,7 @@ ghost use Prim.Native.Nat.{_+_, _≤_};
 ghost use lib.ListN.{take};
 ghost use Rattle.text.specs.Bytes.{parts, newline};
 ghost use Rattle.layout.specs.Layout.{question1, termLines};
-ghost use Rattle.sheet.specs.Questions.{questionOf, firstOf, opsLine, lineOf};
+ghost use Rattle.sheet.specs.Questions.{questionOf, firstOf, _orElse_, opsLine, lineOf};
 ghost use Rattle.sheet.specs.Asking.{termTest, Ready};
 use crate::Asked;
 use crate::headtests::head_line;
@@ -47,17 +47,19 @@ fn first_op(asked: Asked, head: Head, ops: [Op; 4096], n: usize, k: usize) -> us
     0
 }
 
-// The line `ops`, or the first op that fails.
+// The line `ops`, or the first op that fails. The ops are looked through first: a function that hands on an array begins with that, see
+// docs/DECISIONS.md on large frames.
 fn ops_line(asked: Asked, head: Head, ops: [Op; 4096]) -> usize
     requires { ⌜ (head .ops ≤ 4096) × (head .terms ≤ 1024) ⌝ }
     ensures { λ r. ⌜ r ≡ opsLine (questionOf asked head) (head .terms) (take (head .ops) ops) ⌝ }
 {
     let terms = head.terms;
     let n = head.ops;
-    if !ops_fit(asked, head) {
-        return 7 + terms;
+    let line = first_op(asked, head, ops, n, 8 + terms);
+    if ops_fit(asked, head) {
+        return line;
     }
-    first_op(asked, head, ops, n, 8 + terms)
+    7 + terms
 }
 
 // The first `term` line that fails.
@@ -80,18 +82,20 @@ fn first_term(asked: Asked, head: Head, s: &[u8]) -> usize
     0
 }
 
+// The first of two lines, where 0 stands for none.
+fn or_else(a: usize, b: usize) -> usize
+    ensures { λ r. ⌜ r ≡ (a orElse b) ⌝ }
+{
+    if a == 0 { b } else { a }
+}
+
 // The first line of the sheet that fails, or 0.
 pub(crate) fn first_line(asked: Asked, head: Head, s: &[u8], ops: [Op; 4096]) -> usize
     requires { ⌜ Ready asked head (parts newline (now s)) ops ⌝ }
     ensures { λ r. ⌜ r ≡ lineOf asked head (parts newline (now (s .entry))) ⌝ }
 {
-    let a = head_line(asked, head);
-    if a != 0 {
-        return a;
-    }
+    let c = ops_line(asked, head, ops);
     let b = first_term(asked, head, s);
-    if b != 0 {
-        return b;
-    }
-    ops_line(asked, head, ops)
+    let a = head_line(asked, head);
+    or_else(a, or_else(b, c))
 }

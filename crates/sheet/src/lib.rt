@@ -21,5 +21,6 @@ mod headtests;
 mod optests;
 mod replying;
 mod running;
+pub mod screen;
 mod termtests;
 mod verdicts;

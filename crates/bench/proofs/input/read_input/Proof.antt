@@ -1,0 +1,52 @@
+-- `read_input` meets its contract: the place lies within the buffer, and each turn moves it on. Assumes nothing.
+use mathlib.Core.Path.{_≡_, refl, _∙_}
+use Prim.Native.Nat.{_-_, _≤_}
+use native.Mathlib.Omega.{arith}
+use lib.ListN.{length}
+use Rattle.bench.proofs.ReadingLaws.{next-place, next-less, next-inside, still-inside}
+use borrow.Author.Needs.{needs}
+use Rattle.bench.proofs.input.read_input.Statement.{statement}
+use Rattle.bench.proofs.input.read_input.Tie as tie
+
+abbrev Inv-loop : tie.InvT-loop
+Inv-loop buf₀ at₀ buf at = (at ≤ length buf) × (length buf ≡ length buf₀)
+
+abbrev μ-loop : tie.MeasureT-loop
+μ-loop buf₀ at₀ buf at = length buf - at
+
+loop-holds : tie.Need-loop-holds Inv-loop μ-loop
+loop-holds c = (omega arith, refl)
+
+read-at-requires : tie.Need-read-at-requires Inv-loop μ-loop
+read-at-requires c κs = c .before .before .loop .inv .0
+
+add-at : tie.Need-add-at Inv-loop μ-loop
+add-at c =
+    let l = c .before .before .before .before .before .before .before .before .loop in
+    let r = c .before .before .before .before .before .read-at in
+    let h = next-place (length (l .buf)) (l .at) _ (r .result) (r .ensures .0) (c .before .n .given .1) (l .inv .0) in
+    record { fits = omega (arith, h .inside) }
+
+loop-less : tie.Need-loop-less Inv-loop μ-loop
+loop-less c =
+    let l = c .before .before .before .before .before .before .before .before .loop in
+    let r = c .before .before .before .before .before .read-at in
+    next-less _ _ (r .kept .0) (l .at) _ (next-place (length (l .buf)) (l .at) _ (r .result) (r .ensures .0) (c .before .n .given .1) (l .inv .0))
+
+loop-again : tie.Need-loop-again Inv-loop μ-loop
+loop-again c =
+    let l = c .before .before .before .before .before .before .before .before .loop in
+    let r = c .before .before .before .before .before .read-at in
+    (next-inside _ _ (r .kept .0) (l .at) _ (next-place (length (l .buf)) (l .at) _ (r .result) (r .ensures .0) (c .before .n .given .1) (l .inv .0)), r .kept .0 ∙ l .inv .1)
+
+same-length : tie.Need-same-length Inv-loop μ-loop
+same-length c = c .before .before .before .before .read-at .kept .0 ∙ c .before .before .before .before .before .before .before .loop .inv .1
+
+returns : tie.Need-returns Inv-loop μ-loop
+returns c = let l = c .before .before .before .before .before .before .before .loop in still-inside _ _ (c .before .before .before .before .read-at .kept .0) (l .at) (l .inv .0)
+
+same-length-2 : tie.Need-same-length-2 Inv-loop μ-loop
+same-length-2 c = c .before .before .before .before .read-at .kept .0 ∙ c .before .before .before .before .before .before .before .loop .inv .1
+
+pub read-input-spec : {M : Type 1} → statement M
+read-input-spec = tie.close (tie.spec Inv-loop μ-loop loop-holds read-at-requires (λ c. search needs) add-at loop-less loop-again (λ c. search needs) same-length returns (λ c. search needs) same-length-2 (λ c. search needs) (λ c. search needs) (λ c. search needs))
