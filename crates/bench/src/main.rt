@@ -2,14 +2,12 @@
 //
 // What is printed for the bytes of an input is proved: the contract of `screen`. That those bytes are the ones on standard input, and that the
 // text reaches standard output, rests on `read` and `write` of the C library.
-mod input; // input.rt: the input, piece by piece, in a buffer
-
 ghost use mathlib.Core.Path.{_≡_};
 ghost use lib.ListN.{length, take};
 ghost use Rattle.io.specs.Counts.{Counts};
 ghost use Rattle.sheet.specs.Screen.{bench};
-use input::Input;
-use input::read_input;
+use input::reading::Input;
+use input::reading::read_input;
 use libc::STDERR_FILENO;
 use libc::STDOUT_FILENO;
 use sheet::screen::bench_text;
@@ -33,7 +31,7 @@ fn answer(s: &[u8]) {
     }
 }
 
-// A sheet has at most 65,536 bytes: one byte more shows that an input is longer. Where a read fails there is no answer.
+// Where a read fails there is no answer, and a line on standard error says so.
 fn main() {
     let mut buf = [0u8; 65537];
     match read_input(&mut buf) {

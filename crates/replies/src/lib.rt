@@ -12,5 +12,5 @@ pub struct Reply {
     pub means: usize,
 }
 
-mod write; // write.rt: pieces of a text in a lent buffer
+pub mod write; // write.rt: pieces of a text in a lent buffer
 pub mod printed; // printed.rt: the text of a reply

@@ -12,7 +12,8 @@ ghost use Rattle.text.specs.Numerals.{natText, decimalText, hexText};
 ghost use Rattle.replies.specs.Written.{Wrote};
 ghost use Rattle.replies.specs.Printed.{intText, realText, field, zLines};
 
-pub(crate) fn write_byte(out: &mut [u8], at: usize, b: u8) -> usize
+// Writes one byte.
+pub fn write_byte(out: &mut [u8], at: usize, b: u8) -> usize
     ensures { λ r. ⌜ Wrote at (b ∷ []) (now (out .entry)) r (now (out .exit)) ⌝ }
 {
     if at < out.len() {
@@ -22,7 +23,8 @@ pub(crate) fn write_byte(out: &mut [u8], at: usize, b: u8) -> usize
     out.len()
 }
 
-pub(crate) fn write_text(out: &mut [u8], at: usize, s: &[u8]) -> usize
+// Writes the bytes of a text.
+pub fn write_text(out: &mut [u8], at: usize, s: &[u8]) -> usize
     ensures { λ r. ⌜ Wrote at (now (s .entry)) (now (out .entry)) r (now (out .exit)) ⌝ }
 {
     let mut place = held(at, out.len());
@@ -41,7 +43,8 @@ fn held(at: usize, len: usize) -> usize
     if at < len { at } else { len }
 }
 
-pub(crate) fn write_decimal(out: &mut [u8], at: usize, n: usize) -> usize
+// Writes a number in decimal, without leading zeros.
+pub fn write_decimal(out: &mut [u8], at: usize, n: usize) -> usize
     ensures { λ r. ⌜ Wrote at (natText n) (now (out .entry)) r (now (out .exit)) ⌝ }
 {
     write_digits(out, at, n, 20)
@@ -61,8 +64,8 @@ fn write_digits(out: &mut [u8], at: usize, n: usize, d: usize) -> usize
     write_byte(out, place, (48 + n % 10) as u8)
 }
 
-// The last d hexadecimal digits of a number.
-fn write_hex(out: &mut [u8], at: usize, n: u64, d: usize) -> usize
+// Writes the last d hexadecimal digits of a number.
+pub fn write_hex(out: &mut [u8], at: usize, n: u64, d: usize) -> usize
     ensures { λ r. ⌜ Wrote at (hexText d n) (now (out .entry)) r (now (out .exit)) ⌝ }
 {
     if d == 0 {
@@ -72,6 +75,7 @@ fn write_hex(out: &mut [u8], at: usize, n: u64, d: usize) -> usize
     write_byte(out, place, hex_digit(n % 16))
 }
 
+// The byte of a hexadecimal digit.
 fn hex_digit(g: u64) -> u8
     requires { ⌜ g < 16 ⌝ }
     ensures { λ r. ⌜ r ≡ cond (ltb g 10) (48 + g) (87 + g) ⌝ }
@@ -83,7 +87,8 @@ fn hex_digit(g: u64) -> u8
     }
 }
 
-pub(crate) fn write_signed(out: &mut [u8], at: usize, n: i64) -> usize
+// Writes a number in decimal, with a minus sign before it where it is below zero.
+pub fn write_signed(out: &mut [u8], at: usize, n: i64) -> usize
     ensures { λ r. ⌜ Wrote at (intText n) (now (out .entry)) r (now (out .exit)) ⌝ }
 {
     let size = size_of(n);
@@ -106,15 +111,16 @@ fn size_of(n: i64) -> usize
     }
 }
 
-pub(crate) fn write_real(out: &mut [u8], at: usize, x: f64) -> usize
+// Writes the 16 hexadecimal digits of a real number's bits, those of +0 for either zero.
+pub fn write_real(out: &mut [u8], at: usize, x: f64) -> usize
     ensures { λ r. ⌜ Wrote at (realText x) (now (out .entry)) r (now (out .exit)) ⌝ }
 {
     let bits = numbers::bits::printed_bits(x);
     write_hex(out, at, bits, 16)
 }
 
-// The lines `key=value`.
-pub(crate) fn write_count(out: &mut [u8], at: usize, key: &[u8], n: usize) -> usize
+// Writes a key, a number in decimal and a newline. The key has its `=` with it.
+pub fn write_count(out: &mut [u8], at: usize, key: &[u8], n: usize) -> usize
     ensures { λ r. ⌜ Wrote at (field (now (key .entry)) (natText n)) (now (out .entry)) r (now (out .exit)) ⌝ }
 {
     let a = write_text(out, at, key);
@@ -122,7 +128,8 @@ pub(crate) fn write_count(out: &mut [u8], at: usize, key: &[u8], n: usize) -> us
     write_byte(out, b, 10)
 }
 
-pub(crate) fn write_signed_field(out: &mut [u8], at: usize, key: &[u8], n: i64) -> usize
+// Writes a key, a number in decimal with its sign and a newline.
+pub fn write_signed_field(out: &mut [u8], at: usize, key: &[u8], n: i64) -> usize
     ensures { λ r. ⌜ Wrote at (field (now (key .entry)) (intText n)) (now (out .entry)) r (now (out .exit)) ⌝ }
 {
     let a = write_text(out, at, key);
@@ -130,7 +137,8 @@ pub(crate) fn write_signed_field(out: &mut [u8], at: usize, key: &[u8], n: i64) 
     write_byte(out, b, 10)
 }
 
-pub(crate) fn write_real_field(out: &mut [u8], at: usize, key: &[u8], x: f64) -> usize
+// Writes a key, a real number and a newline.
+pub fn write_real_field(out: &mut [u8], at: usize, key: &[u8], x: f64) -> usize
     ensures { λ r. ⌜ Wrote at (field (now (key .entry)) (realText x)) (now (out .entry)) r (now (out .exit)) ⌝ }
 {
     let a = write_text(out, at, key);
@@ -138,14 +146,15 @@ pub(crate) fn write_real_field(out: &mut [u8], at: usize, key: &[u8], x: f64) ->
     write_byte(out, b, 10)
 }
 
+// Writes the line of one Z mean.
 fn write_mean(out: &mut [u8], at: usize, x: f64) -> usize
     ensures { λ r. ⌜ Wrote at (field (bytes "z=") (realText x)) (now (out .entry)) r (now (out .exit)) ⌝ }
 {
     write_real_field(out, at, b"z=", x)
 }
 
-// A line for each of the first n means.
-pub(crate) fn write_means(out: &mut [u8], at: usize, means: &[f64], n: usize) -> usize
+// Writes a line for each of the first n means, as far as there are means.
+pub fn write_means(out: &mut [u8], at: usize, means: &[f64], n: usize) -> usize
     ensures { λ r. ⌜ Wrote at (zLines (take n (now (means .entry)))) (now (out .entry)) r (now (out .exit)) ⌝ }
 {
     let end = held(n, means.len());

@@ -1,5 +1,5 @@
 -- `main` meets its contract. Assumes nothing.
-use Rattle.bench.proofs.ReadingLaws.{held-inside, held-count}
+use Rattle.bench.proofs.TextLaws.{held-inside, held-count}
 use borrow.Author.Needs.{needs}
 use Rattle.bench.proofs.main.Statement.{statement}
 use Rattle.bench.proofs.main.Tie as tie

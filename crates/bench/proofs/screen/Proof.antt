@@ -1,5 +1,5 @@
 -- `screen` meets its contract: the buffer takes every text. Assumes nothing.
-use Rattle.bench.proofs.ReadingLaws.{screened}
+use Rattle.bench.proofs.TextLaws.{screened}
 use denote.Ref.{now}
 use borrow.Author.Needs.{needs}
 use Rattle.bench.proofs.screen.Statement.{statement}

@@ -3,10 +3,10 @@ use mathlib.Core.Path.{_≡_, refl, _∙_}
 use Prim.Native.Nat.{_-_, _≤_}
 use native.Mathlib.Omega.{arith}
 use lib.ListN.{length}
-use Rattle.bench.proofs.ReadingLaws.{next-place, next-less, next-inside, still-inside}
+use Rattle.input.proofs.PieceLaws.{next-place, next-less, next-inside, still-inside}
 use borrow.Author.Needs.{needs}
-use Rattle.bench.proofs.input.read_input.Statement.{statement}
-use Rattle.bench.proofs.input.read_input.Tie as tie
+use Rattle.input.proofs.reading.read_input.Statement.{statement}
+use Rattle.input.proofs.reading.read_input.Tie as tie
 
 abbrev Inv-loop : tie.InvT-loop
 Inv-loop buf₀ at₀ buf at = (at ≤ length buf) × (length buf ≡ length buf₀)

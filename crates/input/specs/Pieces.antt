@@ -2,10 +2,10 @@
 use Prim.Native.Nat.{ℕ, _≤_}
 use mathlib.Core.List.{List}
 use lib.ListN.{length}
-use Rattle.bench.specs.declared.input.Got.{Got}
-use Rattle.bench.specs.declared.input.Got.the-variants as got
-use Rattle.bench.specs.declared.input.Input.{Input}
-use Rattle.bench.specs.declared.input.Input.the-variants as input
+use Rattle.input.specs.declared.reading.Got.{Got}
+use Rattle.input.specs.declared.reading.Got.the-variants as got
+use Rattle.input.specs.declared.reading.Input.{Input}
+use Rattle.input.specs.declared.reading.Input.the-variants as input
 
 -- a read into n bytes gives at least one of them, or none
 abbrev pub Within : ℕ → Got → Type 0

@@ -1,9 +1,9 @@
 -- `read_at` meets its contract. Assumes nothing.
-use Rattle.bench.proofs.ReadingLaws.{within-part, before-kept}
+use Rattle.input.proofs.PieceLaws.{within-part, before-kept}
 use denote.Ref.{now}
 use borrow.Author.Needs.{needs}
-use Rattle.bench.proofs.input.read_at.Statement.{statement}
-use Rattle.bench.proofs.input.read_at.Tie as tie
+use Rattle.input.proofs.reading.read_at.Statement.{statement}
+use Rattle.input.proofs.reading.read_at.Tie as tie
 
 returns : tie.Need-returns
 returns c =

@@ -2,7 +2,7 @@
 ghost use mathlib.Core.Path.{_≡_};
 ghost use Prim.Native.Nat.{_-_, _≤_};
 ghost use lib.ListN.{length, take};
-ghost use Rattle.bench.specs.Reading.{Within, Held};
+ghost use Rattle.input.specs.Pieces.{Within, Held};
 use libc::STDIN_FILENO;
 
 // What one read gave.

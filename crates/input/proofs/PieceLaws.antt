@@ -5,15 +5,9 @@ use native.Mathlib.Omega.{arith}
 use mathlib.Core.List.{List, _++_}
 use lib.ListN.{length, take, drop, length-drop}
 use lib.Seq.{length-take-le, take-append-seam}
-use Rattle.bench.specs.declared.input.Got.{Got}
-use Rattle.bench.specs.declared.input.Got.the-variants as got
-use Rattle.bench.specs.declared.input.Input.{Input}
-use Rattle.bench.specs.declared.input.Input.the-variants as input
-use Rattle.bench.specs.Reading.{Within, Held}
-use Rattle.io.specs.Counts.{Counts}
-use Rattle.replies.specs.Written.{Printing}
-use Rattle.sheet.specs.Screen.{bench}
-use Rattle.sheet.proofs.LengthLaws.{bench-fits, whole-text}
+use Rattle.input.specs.declared.reading.Got.{Got}
+use Rattle.input.specs.declared.reading.Got.the-variants as got
+use Rattle.input.specs.Pieces.{Within}
 
 pub within-part : (at : ℕ) (buf : List ℕ) (r : Got) → Within (length (take (length buf - at) (drop at buf))) r → Within (length buf - at) r
 within-part at buf r w =
@@ -42,18 +36,3 @@ module _ (n n′ : ℕ) (e : n′ ≡ n) (at : ℕ) where
 
   pub still-inside : at ≤ n → at ≤ n′
   still-inside h = omega (arith, h, e)
-
--- ---- the bytes that were read
-pub held-inside : (xs : List ℕ) (r : Input) (k : ℕ) → Held xs r → r ≡ input.Bytes k → k ≤ length xs
-held-inside xs r k h e = subst (Held xs) e h
-
-pub held-count : (xs : List ℕ) (r : Input) (k : ℕ) → Held xs r → r ≡ input.Bytes k → k ≡ length (take k xs)
-held-count xs r k h e = sym (length-take-le k xs (held-inside xs r k h e))
-
--- ---- the text
-pub screened : (s : List ℕ) (n : ℕ) (out out′ : List ℕ) → Printing (bench s) n out out′ → length out ≡ 8192 → length out′ ≡ length out
-    → Counts n out′ × (take n out′ ≡ bench s)
-screened s n out out′ p long kept =
-    let room : length (bench s) ≤ length out = subst (λ (m : ℕ). length (bench s) ≤ m) (sym long) (bench-fits s) in
-    let inside : n ≤ length out′ = omega (arith, p .count, kept, room) in
-    ((inside, sym (length-take-le n out′ inside)), whole-text (bench s) n out out′ p room)
