@@ -1,0 +1,219 @@
+#!/usr/bin/env python3
+"""Check fixed sheets: cases.py PROGRAM [--raw ORACLE]
+
+PROGRAM is a command that speaks the stream format. The sheets are document
+01's cases A to J, the examples of the readings, and the sheets at which
+prism-q differs from document 01. With --raw, the last are also put to
+prism-q alone (`ORACLE --raw`), to check what it says there.
+"""
+
+import argparse
+import shlex
+import subprocess
+import sys
+
+ONE, ZERO, MINUS = "3ff0000000000000", "0000000000000000", "bff0000000000000"
+LARGEST, NAN, INFINITE = "7fefffffffffffff", "7ff8000000000000", "7ff0000000000000"
+T_SINE, T_COSINE = "3fe6a09e667f3bcc", "3fe6a09e667f3bcd"
+HT = ["h:0", "t:0"]
+
+
+def sheet(terms=("X0",), ops=(), qubits=1, run="full", epsilon=ZERO, max_terms=0, limit=8):
+    """A sheet from case A. A term without a weight has weight 1."""
+    lines = ["qubits=%s" % qubits, "run=%s" % run, "epsilon=%s" % epsilon]
+    lines += ["max_terms=%s" % max_terms, "limit=%s" % limit, "terms=%d" % len(terms)]
+    lines += ["term=" + (term if ":" in term else ONE + ":" + term) for term in terms]
+    lines += ["ops=%d" % len(ops)] + ["op=" + op for op in ops]
+    return "".join(line + "\n" for line in lines).encode()
+
+
+def ok(mean=ZERO, shown=0, t_count=0, peak_terms=1, discarded=ZERO, z=()):
+    lines = ["status=0", "line=0", "mean=" + mean, "shown=%d" % shown, "t_count=%d" % t_count]
+    lines += ["peak_terms=%d" % peak_terms, "discarded=" + discarded]
+    return lines + ["z=" + mean for mean in z]
+
+
+def no(status, line=0):
+    lines = ["status=%d" % status, "line=%d" % line, "mean=" + ZERO, "shown=0", "t_count=0"]
+    return lines + ["peak_terms=0", "discarded=" + ZERO]
+
+
+CASE_A = ok(T_COSINE, 707, 1, 2)
+
+CASES = [
+    ("A", sheet(ops=HT), CASE_A),
+    ("B, limit 1", sheet(ops=HT, limit=1), no(9)),
+    ("B, limit 2", sheet(ops=HT, limit=2), CASE_A),
+    (
+        "C",
+        sheet(ops=HT, max_terms=1, epsilon="3fe999999999999a"),
+        ok(t_count=1, discarded="3ff6a09e667f3bcc"),
+    ),
+    ("D", sheet(ops=["h:0", "rz:0:%s,%s" % (ONE, ZERO)]), ok(t_count=1)),
+    ("E, X0,Y0", sheet(["X0,Y0"], HT), no(6, 7)),
+    ("E, X1", sheet(["X1"], HT), no(5, 7)),
+    ("F", sheet([""], HT), ok(ONE, 1000, 1)),
+    ("G", sheet(["Z0", MINUS + ":Z0"]), ok()),
+    ("H", sheet(["Z0"], ["damp:0:" + ONE], run="path"), ok(ONE, 1000, 0, 2)),
+    ("I", sheet(["X0", "X1"], ["t:0"], 2, limit=2), ok(t_count=1, peak_terms=2)),
+    ("J", sheet(["Z0"], ["h:1"], 2, "cone"), ok(ONE, 1000)),
+]
+
+# Layout, from the readings: what stands for one line of a good sheet, or for
+# the whole, and the line that is answered.
+GOOD = sheet(["X0", "Z0"], ["h:0", "rz:0:%s,%s" % (ZERO, ONE), "barrier:"])
+LINES = [
+    ("run", 2, b"run=budget\nrun=\nrun=Full\nrun=full \n"),
+    ("op", 10, b"op=foo:0\nop=cx:0\nop=h:0,1\nop=h:0:\nop=h:\nop=h\nop=rz:0\nop=barrier\nop=barrier:0\n"),
+    ("op", 10, b"op=t:0:%s,%s\n" % ((ONE.encode(),) * 2) + b"op=h:00\nop=h:01\nop=h:+0\nop=h: 0\nop=H:0\n"),
+    ("op", 11, b"op=rz:0:%s,%s:\n" % ((ONE.encode(),) * 2) + b"op=h:0\r\nop=h:\xb2\nop=\nop\n"),
+    ("op", 12, b"op=h:18446744073709551616\nOP=h:0\nop=barrier::\n"),
+    ("term", 7, b"term=3ff0000000000000\nterm=3ff0000000000000:X0,\nterm=3ff0000000000000:x0\n"),
+    ("term", 8, b"term=3FF0000000000000:X0\nterm=3ff000000000000:X0\nterm=:X0\nterm=3ff0000000000000:X\n"),
+    ("count", 5, b"limit=18446744073709551616\nlimit=\nlimit=00\nlimit=01\nlimit=+1\nlimit= 1\nlimit=1 \n"),
+    ("count", 4, b"max_terms=1\r\nmax_terms=-0\nmax_terms\nmax_terms:0\n\n"),
+]
+for kind, line, texts in LINES:
+    for text in texts.split(b"\n")[:-1]:
+        parts = GOOD.split(b"\n")
+        parts[line - 1] = text
+        CASES.append(("layout, %r at %d" % (text, line), b"\n".join(parts), no(1, line)))
+CASES += [
+    ("layout, good", GOOD, ok(ONE, 1000, 1, 2)),
+    ("layout, empty", b"", no(1, 1)),
+    ("layout, one line without its end", b"qubits=1", no(1, 1)),
+    ("layout, no last end", GOOD[:-1], no(1, 12)),
+    ("layout, one byte after", GOOD + b"\n", no(1, 13)),
+    ("layout, one op after", GOOD + b"op=h:0\n", no(1, 13)),
+    ("layout, a term too few", sheet(["X0"]).replace(b"terms=1", b"terms=2"), no(1, 8)),
+    ("layout, a huge count", sheet().replace(b"terms=1", b"terms=18446744073709551615"), no(1, 8)),
+    ("layout, 65,536 bytes", GOOD + b"x" * (65536 - len(GOOD)), no(1, 13)),
+    ("layout, 65,537 bytes", GOOD + b"x" * (65537 - len(GOOD)), no(1, 0)),
+    ("2, qubits 0", sheet(qubits=0), no(2, 1)),
+    ("2, qubits 257", sheet(qubits=257), no(2, 1)),
+    ("2, qubits 2^64 - 1", sheet(qubits=18446744073709551615), no(2, 1)),
+    ("2, limit 0", sheet(limit=0), no(2, 5)),
+    ("2, limit 1,048,577", sheet(limit=1048577), no(2, 5)),
+    ("2, 1,025 terms", sheet(["X0"] * 1025, limit=1048576), no(2, 6)),
+    ("2, more terms than limit", sheet(["X0", "Z0"], limit=1), no(2, 6)),
+    ("2, 4,097 ops", sheet(ops=["h:0"] * 4097), no(2, 8)),
+    ("3, cone without terms", sheet([], run="cone"), no(3, 6)),
+    ("3, cone with two", sheet(["X0", "X0"], run="cone"), no(3, 6)),
+    ("3, cone of weight NaN", sheet([NAN + ":X0"], run="cone"), no(3, 7)),
+    ("3, all with a term", sheet(run="all"), no(3, 6)),
+    ("3, a channel in full", sheet(ops=["h:0", "damp:0:" + NAN]), no(3, 10)),
+    ("4, epsilon", sheet(epsilon="8000000000000001"), no(4, 3)),
+    ("4, epsilon infinite", sheet(epsilon=INFINITE), no(4, 3)),
+    ("4, weight", sheet(["X0", INFINITE + ":X0"]), no(4, 8)),
+    ("4, sine", sheet(ops=["rz:0:3ff0000000000001," + ZERO]), no(4, 9)),
+    ("4, rate", sheet(ops=["damp:0:8000000000000001"], run="path"), no(4, 9)),
+    ("4, -0 lies from 0 to 1", sheet(["Z0"], ["damp:0:8000000000000000"], run="path"), ok(ONE, 1000)),
+    ("5, X0,X0,X1 is 5", sheet(["X0,X0,X1"]), no(5, 7)),
+    ("6, X0,X0 repeats", sheet(["X0,X0"]), no(6, 7)),
+    ("6, cx:0,0", sheet(ops=["h:0", "cx:0,0"]), no(6, 10)),
+    ("7, limit 257", sheet(limit=257), no(7)),
+    ("7, limit 256", sheet(limit=256), ok()),
+    ("no terms", sheet([]), ok(peak_terms=0)),
+    ("all without ops", sheet([], run="all", qubits=2), ok(peak_terms=0, z=[ONE, ONE])),
+    ("sine and cosine 0", sheet(["X0"], ["rz:0:%s,%s" % (ZERO, ZERO)]), ok(t_count=1)),
+]
+
+# Where prism-q differs: document 01's answer, then what prism-q alone says.
+ANSWERS, PANICS = "#prism-q answers", "#prism-q panics"
+QUBIT, PARAMETER = "#prism-q: InvalidQubit", "#prism-q: InvalidParameter"
+CEILING = "#prism-q: BackendUnsupported"
+BIG = LARGEST + ":"
+DIFFERENCES = [
+    ("1, 5 before 6 in one term", sheet(["X0,X0,X1"]), no(5, 7), PARAMETER),
+    ("2, 5 before 6 over terms", sheet(["X0,X0", "X1"]), no(5, 8), PARAMETER),
+    ("3, 5 of an op before a term's 6", sheet(["X0,X0"], ["h:1"]), no(5, 9), PARAMETER),
+    ("4, an op's qubit outside", sheet(ops=["h:1"]), no(5, 9), ANSWERS),
+    ("5, an op's qubit past the words", sheet(ops=["h:64"]), no(5, 9), PANICS),
+    ("6, cx on one qubit twice", sheet(ops=["cx:0,0"]), no(6, 9), ANSWERS),
+    ("6, cz", sheet(ops=["cz:0,0"]), no(6, 9), ANSWERS),
+    ("6, swap", sheet(ops=["swap:0,0"]), no(6, 9), ANSWERS),
+    ("6, rzz", sheet(ops=["rzz:0,0:%s,%s" % (ONE, ZERO)]), no(6, 9), ANSWERS),
+    ("6, depol2", sheet(ops=["depol2:0,0:" + ZERO], run="path"), no(6, 9), ANSWERS),
+    ("7, an infinite mean", sheet([BIG + "Z0", BIG + "Z0"]), no(8), ANSWERS + ", mean infinite"),
+    ("8, an infinite row, mean 0", sheet([BIG + "X0", BIG + "X0"]), no(8), ANSWERS + ", finite"),
+    (
+        "9, an infinite discarded weight",
+        sheet(["7fe8000000000000:X0", "7fe8000000000000:Y0"], epsilon=LARGEST),
+        no(8),
+        ANSWERS + ", discarded infinite",
+    ),
+    (
+        "10, an infinite row, then a fold",
+        sheet([BIG + "X0", BIG + "X0", "X1"], ["t:0", "t:1"], 2, limit=3),
+        no(8),
+        ANSWERS + ", finite",
+    ),
+    (
+        "11, an infinite row, then 9",
+        sheet([BIG + "X0", BIG + "X0"], ["t:0", "h:0", "t:0"], limit=2),
+        no(8),
+        CEILING,
+    ),
+    ("12, qubits 0", sheet([], qubits=0), no(2, 1), ANSWERS),
+    ("12, qubits 257", sheet(qubits=257), no(2, 1), ANSWERS),
+    ("13, limit 0 without ops", sheet(limit=0), no(2, 5), ANSWERS),
+    ("13, more terms than limit", sheet(["X0", "Z0"], limit=1), no(2, 6), ANSWERS),
+    ("14, epsilon NaN", sheet(epsilon=NAN), no(4, 3), ANSWERS + ", finite"),
+    ("14, epsilon below 0", sheet(epsilon=MINUS), no(4, 3), ANSWERS + ", finite"),
+    ("14, epsilon infinite", sheet(epsilon=INFINITE), no(4, 3), ANSWERS + ", finite"),
+    ("14, weight infinite", sheet([INFINITE + ":Z0"]), no(4, 7), ANSWERS + ", mean infinite"),
+    ("14, sine 2", sheet(ops=["rz:0:4000000000000000," + ZERO]), no(4, 9), ANSWERS),
+    ("14, rate 2", sheet(ops=["damp:0:4000000000000000"], run="path"), no(4, 9), ANSWERS),
+    ("15, limit 257", sheet(limit=257), no(7), ANSWERS),
+]
+
+
+def answers(command, texts):
+    data = b"".join(b"#sheet %d\n" % len(text) + text for text in texts)
+    out = subprocess.run(command, input=data, stdout=subprocess.PIPE, check=True).stdout.decode()
+    return [part.split("\n")[1:-1] for part in out.split("#sheet ")[1:]]
+
+
+def infinite(lines, key):
+    bits = [line for line in lines if line.startswith(key)][0].partition("=")[2]
+    return int(bits, 16) >> 52 & 0x7FF == 0x7FF
+
+
+def said(lines):
+    """One line on what prism-q alone said, to compare with the list above."""
+    if lines[0] != ANSWERS:
+        return lines[0].split(" {")[0]
+    for key in ("mean", "discarded"):
+        if infinite(lines, key + "="):
+            return ANSWERS + ", %s infinite" % key
+    return ANSWERS + ", finite"
+
+
+def main():
+    parser = argparse.ArgumentParser(description=__doc__, formatter_class=argparse.RawTextHelpFormatter)
+    parser.add_argument("program")
+    parser.add_argument("--raw", help="the oracle, to ask prism-q alone")
+    given = parser.parse_args()
+    wanted = CASES + [(name, text, lines) for name, text, lines, _ in DIFFERENCES]
+    got = answers(shlex.split(given.program), [text for _, text, _ in wanted])
+    bad = 0
+    for (name, text, lines), found in zip(wanted, got):
+        found = [line for line in found if not line.startswith(("#", "row="))]
+        if found != lines:
+            bad += 1
+            print("%s: wanted %s, got %s" % (name, lines, found))
+    print("%d sheets, %d wrong" % (len(wanted), bad))
+    if given.raw:
+        got = answers(shlex.split(given.raw) + ["--raw"], [text for _, text, _, _ in DIFFERENCES])
+        wrong = 0
+        for (name, _, _, wanted_of_it), found in zip(DIFFERENCES, got):
+            if not said(found).startswith(wanted_of_it):
+                wrong += 1
+                print("%s: wanted %s, got %s" % (name, wanted_of_it, found))
+        print("%d differences, %d not as listed" % (len(DIFFERENCES), wrong))
+        bad += wrong
+    sys.exit(1 if bad else 0)
+
+
+if __name__ == "__main__":
+    main()

@@ -1,0 +1,53 @@
+#!/usr/bin/env python3
+"""Choose the sheets of the program `replay` and write what the oracle says of them: replay.py ORACLE FOLDER
+
+Writes FOLDER/stdin, a stream of sheets, and FOLDER/stdout, the answers to them with their rows: first the fixed sheets of cases.py, then sheets of
+every kind that pass the questions, whose answers are prism-q's, then refused sheets, whose answers are document 01's as the oracle's own checker
+reads it. A stream is at most 2,000,000 bytes, what the program takes.
+"""
+
+import io
+import os
+import subprocess
+import sys
+
+import cases
+import compare
+
+HERE = os.path.dirname(os.path.abspath(__file__))
+MOST = 2_000_000
+
+
+def generated(*words):
+    run = subprocess.run([sys.executable, os.path.join(HERE, "generate.py"), *words], stdout=subprocess.PIPE, check=True)
+    return list(compare.sheets(io.BytesIO(run.stdout)))
+
+
+def chosen():
+    """The fixed sheets, some of thousands of ops, sheets of every kind, and refused sheets that are short."""
+    yield from (text for _, text, _ in cases.CASES)
+    yield from (text for _, text, _, _ in cases.DIFFERENCES)
+    yield from generated("--seed", "3", "--count", "5", "--kinds", "long=1")
+    yield from generated("--seed", "1", "--count", "2800")
+    yield from (s for s in generated("--seed", "2", "--count", "2000", "--refused") if len(s) <= 1200)
+
+
+def main():
+    oracle, folder = sys.argv[1:]
+    data, count = b"", 0
+    for sheet in chosen():
+        piece = b"#sheet %d\n" % len(sheet) + sheet
+        if len(data) + len(piece) <= MOST:
+            data += piece
+            count += 1
+    out = subprocess.run([oracle], input=data, stdout=subprocess.PIPE, check=True).stdout.decode("ascii")
+    lines = [line for line in out.splitlines() if line.startswith("#sheet ") or not line.startswith("#")]
+    with open(os.path.join(folder, "stdin"), "wb") as file:
+        file.write(data)
+    with open(os.path.join(folder, "stdout"), "w", encoding="ascii") as file:
+        file.write("\n".join(lines) + "\n")
+    answers = [line for line in lines if line.startswith("status=")]
+    print(count, "sheets,", len(data), "bytes;", ", ".join("%s: %d" % (s, answers.count(s)) for s in sorted(set(answers))))
+
+
+main()
