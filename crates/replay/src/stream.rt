@@ -74,9 +74,9 @@ fn sheet_length(line: &[u8]) -> Read {
     Read::Bad
 }
 
-// Answers one sheet on standard output.
+// Answers one sheet on standard output. In 512 rows a run leaves at most 256 terms, each on a line of at most 174 bytes.
 fn answer_one(s: &[u8], index: usize) -> bool {
-    let mut out = [0u8; 131072];
+    let mut out = [0u8; 65536];
     let n = write_one(s, index, &mut out);
     io::write_all(STDOUT_FILENO, part_to(&out, n))
 }

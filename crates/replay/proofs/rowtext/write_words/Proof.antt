@@ -13,17 +13,14 @@ Inv-loop out₀ at words place₀ i₀ out place i = (i ≤ length words) × (le
 abbrev μ-loop : tie.MeasureT-loop
 μ-loop out₀ at words place₀ i₀ out place i = length words - i
 
--- src/rowtext.rt:103:5
 loop-holds : tie.Need-loop-holds Inv-loop μ-loop
 loop-holds c = (omega arith, refl)
 
--- src/rowtext.rt:103:5
 loop-again : tie.Need-loop-again Inv-loop μ-loop
 loop-again c =
     let l = c .before .before .before .before .before .before .loop in
     (omega (arith, c .before .before .before .before .before .loop-test .taken), c .before .before .write-word .kept .0 ∙ l .inv .1)
 
--- src/rowtext.rt:100:1
 same-length : tie.Need-same-length Inv-loop μ-loop
 same-length c = c .before .loop .inv .1
 
