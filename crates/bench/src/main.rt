@@ -4,6 +4,7 @@
 // text reaches standard output, rests on `read` and `write` of the C library.
 ghost use mathlib.Core.Path.{_≡_};
 ghost use lib.ListN.{length, take};
+ghost use Rattle.input.specs.Pieces.{Held};
 ghost use Rattle.io.specs.Counts.{Counts};
 ghost use Rattle.sheet.specs.Screen.{bench};
 use input::reading::Input;
@@ -31,10 +32,18 @@ fn answer(s: &[u8]) {
     }
 }
 
+// Reads the input. A sheet has at most 65,536 bytes: one byte more shows that an input is longer.
+fn read_sheet(buf: &mut [u8]) -> Input
+    requires { ⌜ length (now buf) ≡ 65537 ⌝ }
+    ensures { λ r. ⌜ Held (now (buf .exit)) r ⌝ }
+{
+    read_input(buf)
+}
+
 // Where a read fails there is no answer, and a line on standard error says so.
 fn main() {
     let mut buf = [0u8; 65537];
-    match read_input(&mut buf) {
+    match read_sheet(&mut buf) {
         Input::Bytes(n) => answer(&buf[..n]),
         Input::Failed => {
             io::write_all(STDERR_FILENO, b"bench: the input could not be read\n");
