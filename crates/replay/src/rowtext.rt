@@ -118,7 +118,13 @@ fn write_row(out: &mut [u8], at: usize, row: &[u64], w: usize, re: f64, im: f64)
 }
 
 // Writes the rows up to the last that is not zero, of w words x and w words z each.
-pub fn write_rows(out: &mut [u8], at: usize, words: &[u64], coeffs: &[f64], w: usize) -> usize {
+pub(crate) fn write_rows(
+    out: &mut [u8],
+    at: usize,
+    words: &[u64],
+    coeffs: &[f64],
+    w: usize,
+) -> usize {
     if 4 < w {
         return at;
     }

@@ -82,7 +82,7 @@ fn answer_one(s: &[u8], index: usize) -> bool {
 }
 
 // Answers the sheets of a stream, one after another, until it ends, is no such stream, or has less of a sheet than its line tells.
-pub fn answer_all(s: &[u8]) {
+pub(crate) fn answer_all(s: &[u8]) {
     let mut rest = s;
     let mut index = 0;
     while 0 < rest.len() {
