@@ -2,7 +2,7 @@
 ghost use mathlib.Core.Path.{_≡_};
 ghost use mathlib.Core.Bool.{true};
 ghost use mathlib.Core.List.{[]};
-ghost use Prim.Native.Nat.{_*_, _≤_, _<_, max};
+ghost use Prim.Native.Nat.{_*_, _≤_, _<_};
 ghost use lib.ListN.{length, take, getD};
 ghost use lib.Ieee.{nan};
 ghost use Rattle.words.specs.Keys.{widthOf};
@@ -21,18 +21,13 @@ use turns::Limits;
 use turns::Op;
 use turns::Start;
 use turns::Tally;
+use turns::peaks::larger;
 use turns::run::run_marked;
 
 // The totals so far, or the refusal of one line.
 pub(crate) enum Folded {
     Ended(u8),
     Held(f64, Tally),
-}
-
-fn larger(a: usize, b: usize) -> usize
-    ensures { λ r. ⌜ r ≡ max a b ⌝ }
-{
-    if a <= b { b } else { a }
 }
 
 // The totals with one line's end: its mean times the weight, its discarded weight times the weight's size, the greater peak.

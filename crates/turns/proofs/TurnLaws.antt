@@ -94,14 +94,14 @@ module _ (l : Limits) (n : ℕ) (t : Tally) (cs : List Float) {b : Bool} (q : b 
   unfolding checked
   checked-9 e h w ws = rw (sym (fine-in w n t ws cs) ∙ sym q ∙ e, long w n t ws cs, lt-leb n (l .limit) h)
 
-  pub checked-on : {p : ℕ} → b ≡ true → n ≤ l .limit → p ≡ max (t .peak) n → CheckedIn l n t cs (Going n (tally p (t .discarded)))
+  pub checked-on : {u : Tally} → b ≡ true → n ≤ l .limit → (u .peak ≡ max (t .peak) n) × (u .discarded ≡ t .discarded) → CheckedIn l n t cs (Going n u)
   unfolding checked
-  checked-on {p} e h m w ws =
+  checked-on {u} e h m w ws =
       let s : State = stateIn w n t ws cs in
       let k = long w n t ws cs in
       let f : fine s ≡ true = sym (fine-in w n t ws cs) ∙ sym q ∙ e in
       let g : leb (length (s .terms)) (l .limit) ≡ true = ap (λ (x : ℕ). leb x (l .limit)) k ∙ le-leb n (l .limit) h in
-      (λ i. Going (sym k i) (tally ((m ∙ ap (max (t .peak)) (sym k)) i) (t .discarded)))
+      (λ i. Going (sym k i) (tally ((m .0 ∙ ap (max (t .peak)) (sym k)) i) (m .1 i)))
       ∙ sym (λ i. turnedOf (ask 8 (f i) (ask 9 (g i) (going (counted s)))))
 
 -- ---- what follows an op

@@ -1,7 +1,7 @@
 // One turn of a run: an op, and what follows it.
 ghost use mathlib.Core.Path.{_≡_};
 ghost use mathlib.Core.Bool.{_&&_};
-ghost use Prim.Native.Nat.{_*_, _≤_, max};
+ghost use Prim.Native.Nat.{_*_, _≤_};
 ghost use lib.Dec.{ltb};
 ghost use lib.ListN.{length};
 ghost use Rattle.terms.specs.Term.{Distinct};
@@ -14,6 +14,7 @@ use crate::Op;
 use crate::Tally;
 use crate::Turned;
 use crate::apply;
+use crate::peaks::counted;
 
 // The number of terms and the tally, after a drop.
 pub(crate) struct Left {
@@ -28,12 +29,6 @@ pub(crate) fn fine(coeffs: &[f64], n: usize, tally: Tally) -> bool
     let all = sums::mean::all_finite(coeffs, n);
     let d = numbers::tests::is_finite(tally.discarded);
     if all { d } else { false }
-}
-
-fn larger(a: usize, b: usize) -> usize
-    ensures { λ r. ⌜ r ≡ max a b ⌝ }
-{
-    if a <= b { b } else { a }
 }
 
 // The drop of small terms; their sum is added to the discarded weight.
@@ -94,13 +89,7 @@ fn checked(limits: Limits, coeffs: &[f64], n: usize, tally: Tally) -> Turned
         if limits.limit < n {
             return Turned::Refused(9);
         }
-        return Turned::Going(
-            n,
-            Tally {
-                peak: larger(tally.peak, n),
-                discarded: tally.discarded,
-            },
-        );
+        return Turned::Going(n, counted(tally, n));
     }
     Turned::Refused(8)
 }

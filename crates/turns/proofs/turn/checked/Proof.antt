@@ -9,7 +9,7 @@ returns : tie.Need-returns
 returns c = let a = c .before .before .before .before .before .args in checked-9 (a .limits) (a .n) (a .tally) (now (a .coeffs)) (c .before .before .before .fine .ensures) (c .before .before .if1 .taken) (c .if2 .taken)
 
 returns-2 : tie.Need-returns-2
-returns-2 c = let a = c .before .before .before .before .before .before .args in checked-on (a .limits) (a .n) (a .tally) (now (a .coeffs)) (c .before .before .before .before .fine .ensures) (c .before .before .before .if1 .taken) (c .before .if2 .left) (c .larger .ensures)
+returns-2 c = let a = c .before .before .before .before .before .before .args in checked-on (a .limits) (a .n) (a .tally) (now (a .coeffs)) (c .before .before .before .before .fine .ensures) (c .before .before .before .if1 .taken) (c .before .if2 .left) (c .counted .ensures)
 
 returns-3 : tie.Need-returns-3
 returns-3 c = let a = c .before .before .before .args in checked-8 (a .limits) (a .n) (a .tally) (now (a .coeffs)) (c .before .fine .ensures) (c .if1 .left)
