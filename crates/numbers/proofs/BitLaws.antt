@@ -8,10 +8,10 @@ use mathlib.Core.Bool.{Bool, true, false, not, cond}
 use lib.Dec.{T, leb, ltb, eqb, leb→le, eqb→eq, lt→ltb, not-T}
 use lib.Arith.{le→nltb}
 use lib.IntN.{pos}
-use lib.Pow.{pow-pos, pow-mono, shl-lt}
+use lib.Pow.{pow-mono, shl-lt}
 use lib.Count.{trailingZeros, under}
 use lib.Ieee.{Float, nan, inf, fin, binary64, minus, odd, units, fits, ofFields, ofBits, toBits, isNan, nanBits, ne}
-use lib.Ieee.Bits.{is-true, is-false, cond-no, ofBits-toBits, toBits-lt, nanBits-is, nanBits-above}
+use lib.Ieee.Bits.{is-true, is-false, cond-no, ofBits-toBits, nanBits-is, nanBits-above}
 use lib.Ieee.Exact.{HasValue, odd-sign}
 use Rattle.numbers.specs.Constants.{zero64}
 use Rattle.numbers.specs.Tests.{isFinite, isZero}
@@ -156,13 +156,6 @@ pub no-nan-bits : (n : ℕ) → n < 0x7ff0_0000_0000_0000 → T (not (nanBits bi
 no-nan-bits n h = number-bits n (le-trans (mod-le n (2 ^ 63)) (le-of-lt h))
 
 -- ---- what is printed
-
-pub printed-lt : (x : Float) → T (fits binary64 x) → printedBits x < 2 ^ 64
-printed-lt x f = go (isZero x)
-  where
-    go : (b : Bool) → cond b 0 (toBits binary64 x) < 2 ^ 64
-    go true = pow-pos 64
-    go false = toBits-lt binary64 x f
 
 -- read back, it is the same number
 pub printed-back : (x : Float) → T (fits binary64 x) → ofBits binary64 (printedBits x) ≈ x

@@ -6,13 +6,12 @@ use native.Mathlib.Omega.{arith}
 use mathlib.Core.Bool.{Bool, true, false, not, _&&_, Bool·beq, or-true}
 use lib.IntN.{ℤ, pos}
 use lib.Dec.{T}
-use lib.Ieee.{Float, nan, inf, fin, Format, binary64, up, down, lt, eq, le, neg, fits, isNan, ofBits}
+use lib.Ieee.{Float, nan, inf, fin, binary64, up, down, lt, eq, neg, fits, isNan, ofBits}
 use lib.Ieee.Exact.{HasValue}
-use lib.Ieee.Bits.{ofBits-fits}
-use lib.Ieee.Fits.{up-pos, cond-fits}
+use lib.Ieee.Fits.{up-pos}
 use borrow.Author.Tests.{ltb-true, ltb-false}
 use Rattle.numbers.specs.Constants.{zero64}
-use Rattle.numbers.specs.Tests.{isFinite, absOf, isEpsilon, inSine, inUnit, atLeastZero}
+use Rattle.numbers.specs.Tests.{isFinite, absOf}
 use Rattle.numbers.specs.Close.{_≈_, same, zeros}
 use Rattle.numbers.proofs.CloseLaws.{≈-of-eq}
 
@@ -24,11 +23,6 @@ pub fails : {b : Bool} → b ≡ false → T b → ⊥
 fails p t = subst T p t
 
 -- ---- finite
-
-pub finite-is : (x : Float) → isFinite x ≡ true → (s : Bool) × (m : ℕ) × (e : ℤ) × (x ≡ fin s m e)
-finite-is nan p = absurd (holds p)
-finite-is (inf s) p = absurd (holds p)
-finite-is (fin s m e) p = (s, m, e, refl)
 
 pub finite-of-value : (x : Float) (s : Bool) (a c : ℕ) → HasValue x s a c → isFinite x ≡ true
 finite-of-value nan s a c v = absurd v
@@ -47,37 +41,6 @@ between-infinities nan = refl
 between-infinities (inf true) = refl
 between-infinities (inf false) = refl
 between-infinities (fin s m e) = refl
-
-pub in-unit-finite : (x : Float) → inUnit x ≡ true → isFinite x ≡ true
-unfolding le lt eq ofBits
-in-unit-finite nan p = absurd (holds p)
-in-unit-finite (inf true) p = absurd (holds p)
-in-unit-finite (inf false) p = absurd (holds p)
-in-unit-finite (fin s m e) p = refl
-
-pub in-sine-finite : (x : Float) → inSine x ≡ true → isFinite x ≡ true
-unfolding le lt eq neg ofBits
-in-sine-finite nan p = absurd (holds p)
-in-sine-finite (inf true) p = absurd (holds p)
-in-sine-finite (inf false) p = absurd (holds p)
-in-sine-finite (fin s m e) p = refl
-
-pub is-epsilon-finite : (x : Float) → isEpsilon x ≡ true → isFinite x ≡ true
-is-epsilon-finite nan p = absurd (holds p)
-is-epsilon-finite (inf s) p = absurd (holds p)
-is-epsilon-finite (fin s m e) p = refl
-
--- ---- what a format holds
-
-pub abs-fits : (f : Format) (x : Float) → T (fits f x) → T (fits f (absOf x))
-unfolding fits
-abs-fits f nan h = tt
-abs-fits f (inf s) h = tt
-abs-fits f (fin s zero e) h = h
-abs-fits f (fin s (suc m) e) h = h
-
-pub at-least-zero-fits : (x : Float) → T (fits binary64 x) → T (fits binary64 (atLeastZero x))
-at-least-zero-fits x h = cond-fits binary64 (lt zero64 x) x zero64 h (ofBits-fits binary64 0)
 
 -- ---- against zero
 

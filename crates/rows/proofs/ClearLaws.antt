@@ -8,7 +8,7 @@ use native.Mathlib.Nat.{sub-self, mul-sub, mul-comm}
 use native.Mathlib.Numerals.{add-one}
 use native.Mathlib.Omega.{arith}
 use lib.Dec.{leb, ltb}
-use lib.ListN.{length, getD, set, take, drop, replicate, length-append, length-drop, length-replicate, take-append-drop, replicate-append-replicate}
+use lib.ListN.{length, getD, set, take, drop, replicate, length-append, length-replicate, take-append-drop, replicate-append-replicate}
 use lib.Seq.{length-take-le, drop-cons, set-at}
 use lib.Ieee.{Float}
 use borrow.Author.Tests.{lt-ltb, le-ltb, le-leb}
@@ -38,12 +38,6 @@ module _ {A : Type 0} (z : A) (a : ℕ) (l : List A) where
       ∙ ap (λ (m : List A). take a l ++ m) (sym (append-assoc (replicate (i - a) z) (z ∷ []) (drop (suc i) l))
       ∙ ap (λ (m : List A). m ++ drop (suc i) l) (replicate-append-replicate (i - a) 1 z))
       ∙ (λ k. take a l ++ (replicate (more k) z ++ drop (sym (add-one i) k) l))
-
-  pub length-filled : (b : ℕ) → a ≤ b → b ≤ length l → length (filled z a b l) ≡ length l
-  unfolding filled
-  length-filled b h e =
-      length-append (take a l) (replicate (b - a) z ++ drop b l) ∙ ap (λ (n : ℕ). length (take a l) + n) (length-append (replicate (b - a) z) (drop b l))
-      ∙ simp (length-replicate, length-drop) (omega (arith, length-take-le a l (omega arith)))
 
 -- ---- rows that are cleared
 

@@ -1,21 +1,17 @@
 -- What a store into a row does to the terms that the buffers hold. Assumes nothing.
-use mathlib.Core.Path.{_≡_, refl, sym, ap, _∙_, subst}
+use mathlib.Core.Path.{_≡_, refl, sym, ap, _∙_}
 use mathlib.Core.List.{List, [], _∷_, _++_, append-assoc, append-nil}
 use Prim.Native.Nat.{ℕ, zero, suc, _+_, _*_, _≤_, _<_}
-use native.Mathlib.Nat.{suc-mul, mul-le-mul-right, mul-suc, zero-mul, mul-zero}
+use native.Mathlib.Nat.{suc-mul, mul-le-mul-right, zero-mul}
 use native.Mathlib.Numerals.{add-one}
 use native.Mathlib.Omega.{arith}
-use lib.ListN.{length, getD, set, take, drop, length-set, take-append-drop}
+use lib.ListN.{length, getD, set, take}
 use lib.Seq.{take-suc, take-add}
 use lib.Ieee.{Float, nan}
-use lib.Dec.{leb}
-use mathlib.Core.Bool.{true}
-use borrow.Author.Tests.{leb-true}
-use Rattle.terms.proofs.CaseLaws.{and-true}
 use Rattle.terms.specs.declared.Complex64.{Complex64}
 use Rattle.terms.specs.Lists.{tab, mapTo}
 use Rattle.terms.specs.Term.{Term, noTerm}
-use Rattle.rows.specs.Rows.{keyAt, coeffAt, termAt, termsIn, putCoeff, putKey, Holds, Room, keysOf, coeffsOf}
+use Rattle.rows.specs.Rows.{keyAt, termAt, termsIn, putCoeff, putKey, Holds, Room, keysOf, coeffsOf}
 use Rattle.terms.proofs.ListLaws.{length-tab, getD-tab, tab-ext, tab-snoc, tab-set, mapTo-suc}
 use Rattle.rows.proofs.RowLaws.{length-putCoeff, val-put-same, val-put-other, drop-putCoeff, row-before, drop-more, length-putKey, drop-putKey, key-put-same, key-put-other}
 

@@ -1,12 +1,12 @@
 -- Laws of rows: what a store into one row leaves in each. Assumes nothing.
-use mathlib.Core.Path.{_≡_, refl, sym, ap, _∙_, subst}
+use mathlib.Core.Path.{_≡_, sym, ap, _∙_, subst}
 use mathlib.Core.Logic.{⊎-elim}
-use mathlib.Core.List.{List, [], _∷_, _++_, append-assoc}
-use Prim.Native.Nat.{ℕ, zero, suc, _+_, _-_, _*_, _≤_, _<_}
-use native.Mathlib.Nat.{suc-mul, mul-le-mul-right, add-sub-of-le, eq-or-lt-of-le}
+use mathlib.Core.List.{List, _++_, append-assoc}
+use Prim.Native.Nat.{ℕ, _+_, _-_, _*_, _≤_, _<_}
+use native.Mathlib.Nat.{suc-mul, mul-le-mul-right, eq-or-lt-of-le}
 use native.Mathlib.Omega.{arith}
-use lib.ListN.{length, getD, set, take, drop, length-set, length-append, length-take, length-drop, take-append-drop}
-use lib.Seq.{getD-set-same, getD-set-other, drop-set-lt, length-take-le, take-append-le, drop-append-le, take-append-seam, drop-append-seam, drop-append-add, take-at, drop-at, drop-drop, take-take, set-split, set-append-left, getD-take, getD-drop, split-at, take-set-le, drop-set-add, paste, paste-zero, paste-suc, set-getD, drop-paste}
+use lib.ListN.{length, getD, set, take, drop, length-set, length-append, length-drop, take-append-drop}
+use lib.Seq.{getD-set-same, getD-set-other, drop-set-lt, length-take-le, take-append-le, drop-append-le, take-at, drop-at, drop-drop, getD-take, getD-drop, paste, paste-zero, paste-suc, set-getD, drop-paste}
 use native.Mathlib.Numerals.{add-one}
 use lib.Ieee.{Float, nan}
 use Rattle.terms.specs.declared.Complex64.{Complex64}
@@ -95,16 +95,6 @@ word-at s ws i k h = getD-take s (drop (i * s) ws) k 0 h ∙ getD-drop (i * s) w
 
 pub length-key : (s : ℕ) (ws : List ℕ) (i : ℕ) → i * s + s ≤ length ws → length (keyAt s ws i) ≡ s
 length-key s ws i h = length-take-le s (drop (i * s) ws) (simp length-drop (omega arith))
-
-pub set-is-put : (s : ℕ) (ws : List ℕ) (i k v : ℕ) → k < s → i * s + s ≤ length ws → set ws (i * s + k) v ≡ putKey s ws i (set (keyAt s ws i) k v)
-set-is-put s ws i k v h room =
-    let parts : drop (i * s) ws ≡ keyAt s ws i ++ drop (i * s + s) ws =
-    sym (take-append-drop s (drop (i * s) ws)) ∙ ap (λ (l : List ℕ). keyAt s ws i ++ l) (drop-drop s (i * s) ws) in
-    let inside : k < length (keyAt s ws i) = subst (λ (n : ℕ). k < n) (sym (length-key s ws i room)) h in
-    sym (take-append-drop (i * s) (set ws (i * s + k) v))
-    ∙ (λ z. take-set-le (i * s) ws (i * s + k) v (omega arith) z ++ drop-set-add (i * s) ws k v z)
-    ∙ ap (λ (l : List ℕ). take (i * s) ws ++ set l k v) parts
-    ∙ ap (λ (l : List ℕ). take (i * s) ws ++ l) (set-append-left (keyAt s ws i) (drop (i * s + s) ws) k v inside)
 
 -- ---- a row copied to a later one, word by word
 

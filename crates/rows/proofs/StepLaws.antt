@@ -1,13 +1,13 @@
 -- From what a loop holds to what a public step leaves: with room the terms in order and the rest as it was, without room all as it was.
 -- Assumes nothing.
-use mathlib.Core.Path.{_≡_, refl, sym, ap, _∙_, subst}
+use mathlib.Core.Path.{_≡_, sym, ap, _∙_, subst}
 use mathlib.Core.Bool.{Bool, true, false, cond}
 use mathlib.Core.List.{List, _++_, map}
-use Prim.Native.Nat.{ℕ, zero, suc, _+_, _-_, _*_, _/_, _≤_, _<_, min}
-use native.Mathlib.Nat.{le-trans, min-le-left, min-le-right, le-div-iff-mul-le, div-zero, zero-mul, mul-zero, sub-self}
+use Prim.Native.Nat.{ℕ, zero, suc, _-_, _*_, _/_, _≤_, _<_, min}
+use native.Mathlib.Nat.{le-trans, min-le-left, min-le-right, le-div-iff-mul-le, div-zero, zero-mul}
 use native.Mathlib.Omega.{arith}
 use lib.Dec.{leb}
-use lib.ListN.{length, take, drop, replicate, take-append-drop}
+use lib.ListN.{length, drop, replicate, take-append-drop}
 use lib.Ieee.{Float}
 use borrow.Author.Tests.{le-leb, lt-leb, leb-true}
 use Rattle.numbers.specs.Constants.{zero64}

@@ -1,4 +1,4 @@
--- What the loop over the qubits has to know of `all`, and what the whole run leaves. Assumes nothing.
+-- What the proof of the loop over the qubits uses of `all`, and what the whole run leaves. Assumes nothing.
 use mathlib.Core.Path.{_≡_, refl, sym, ap, ap₂, _∙_, subst}
 use mathlib.Core.Bool.{Bool, true, false, cond, not, _&&_}
 use mathlib.Core.List.{List, [], _++_}
@@ -34,8 +34,8 @@ use Rattle.turns.specs.Told.{endingOf, Ran}
 use Rattle.turns.specs.Given.{isGiven, isHeld, startedRun}
 use Rattle.turns.specs.Marks.{overlay}
 use Rattle.turns.proofs.RunLaws.{bind-same}
-use Rattle.runs.specs.Outcome.{nothingYet, addZ, allRuns}
-use Rattle.runs.specs.Means.{allTask, fitsAll, roomAll, allHeld, allAsked, meansOf, AllRan, earlyAll, zState, zStep, allTo, AllReady, Answers, allIn, Passes}
+use Rattle.runs.specs.Outcome.{nothingYet, addZ, allRuns, zState, zStep}
+use Rattle.runs.specs.Means.{allTask, fitsAll, roomAll, allHeld, allAsked, meansOf, AllRan, earlyAll, allTo, AllReady, Answers, allIn, AllTold}
 use Rattle.runs.specs.Means.{meanAdded, meansWith, Added, clearedMeans, AllLeaves}
 use Rattle.runs.proofs.MarkRuns.{marked-overlay}
 
@@ -99,12 +99,12 @@ added-done q n x t ms end h = rw h (record { answer = refl; means = refl })
 -- ---- one qubit's turn
 
 module _ (w : ℕ) (l : Limits) (marks : List Bool) (ops : List Op) (q : ℕ) (at : Ending) where
-  pub step-failed : (e : ℕ) (ws : List ℕ) (cs ms : List Float) → at ≡ Failed e → Passes w (q + 1) (Failed e) ws ws cs cs ms ms (bind (allIn q at ms) (zStep w l marks ops q))
+  pub step-failed : (e : ℕ) (ws : List ℕ) (cs ms : List Float) → at ≡ Failed e → AllTold w (q + 1) (Failed e) ws ws cs cs ms ms (bind (allIn q at ms) (zStep w l marks ops q))
   step-failed e ws cs ms h = rw h (record { answer = refl; told = refl; rows = hold-none (2 * w) (rowsIn w ws cs) ws cs; kept = refl; long = refl })
 
   pub step-done : (n : ℕ) (x : Float) (t : Tally) {end r : Ending} {ws₀ ws : List ℕ} {cs₀ cs m₀ m : List Float} → at ≡ Done x n t → q < length m₀
       → Answers w end ws₀ ws cs₀ cs (markedRun w l marks ops (zState w q (tallied t))) → Added q m₀ m end r
-      → Passes w (q + 1) r ws₀ ws cs₀ cs m₀ m (bind (allIn q at m₀) (zStep w l marks ops q))
+      → AllTold w (q + 1) r ws₀ ws cs₀ cs m₀ m (bind (allIn q at m₀) (zStep w l marks ops q))
   step-done n x t {end} {r} {ws₀} {ws} {cs₀} {cs} {m₀} {m} h inside A D = rw h (record {
     answer = answer (markedRun w l marks ops (zState w q (tallied t))) (A .answer);
     told = told (markedRun w l marks ops (zState w q (tallied t))) (A .answer);
@@ -138,12 +138,12 @@ module _ (w : ℕ) (l : Limits) (marks : List Bool) (ops : List Op) (q : ℕ) (a
 -- ---- the loop
 
 module _ (w : ℕ) (l : Limits) (marks : List Bool) (ops : List Op) where
-  pub all-start : (at : Ending) (ws : List ℕ) (cs ms : List Float) → at ≡ endingOf (going nothingYet) → Passes w 0 at ws ws cs cs ms ms (allTo w l marks ops 0)
+  pub all-start : (at : Ending) (ws : List ℕ) (cs ms : List Float) → at ≡ endingOf (going nothingYet) → AllTold w 0 at ws ws cs cs ms ms (allTo w l marks ops 0)
   unfolding allTo
   all-start at ws cs ms e = record { answer = e; told = ap (λ (a : Ending). allIn 0 a ms) e; rows = hold-none (2 * w) (rowsIn w ws cs) ws cs; kept = refl; long = refl }
 
-  pub all-turn : {q : ℕ} {at r : Ending} {ws₀ ws ws′ : List ℕ} {cs₀ cs cs′ m₀ m m′ : List Float} → Passes w q at ws₀ ws cs₀ cs m₀ m (allTo w l marks ops q)
-      → Passes w (q + 1) r ws ws′ cs cs′ m m′ (bind (allIn q at m) (zStep w l marks ops q)) → Passes w (q + 1) r ws₀ ws′ cs₀ cs′ m₀ m′ (allTo w l marks ops (q + 1))
+  pub all-turn : {q : ℕ} {at r : Ending} {ws₀ ws ws′ : List ℕ} {cs₀ cs cs′ m₀ m m′ : List Float} → AllTold w q at ws₀ ws cs₀ cs m₀ m (allTo w l marks ops q)
+      → AllTold w (q + 1) r ws ws′ cs cs′ m m′ (bind (allIn q at m) (zStep w l marks ops q)) → AllTold w (q + 1) r ws₀ ws′ cs₀ cs′ m₀ m′ (allTo w l marks ops (q + 1))
   unfolding allTo
   all-turn {q} {at} {r} {ws₀} {ws} {ws′} {cs₀} {cs} {cs′} {m₀} {m} {m′} P U =
       let same : bind (allIn q at m) (zStep w l marks ops q) ≡ allTo w l marks ops (q + 1) =
@@ -156,7 +156,7 @@ module _ (w : ℕ) (l : Limits) (marks : List Bool) (ops : List Op) where
         long = U .long ∙ P .long;
       }
 
-pub all-ready : {w k q : ℕ} {l : Limits} {at : Ending} {ws₀ ws : List ℕ} {cs₀ cs m₀ m : List Float} {run : Stage Outcome} → AllReady w k l ws₀ cs₀ m₀ → Passes w q at ws₀ ws cs₀ cs m₀ m run → q < k
+pub all-ready : {w k q : ℕ} {l : Limits} {at : Ending} {ws₀ ws : List ℕ} {cs₀ cs m₀ m : List Float} {run : Stage Outcome} → AllReady w k l ws₀ cs₀ m₀ → AllTold w q at ws₀ ws cs₀ cs m₀ m run → q < k
     → AllReady w (q + 1) l ws cs m
 all-ready {w} {k} {q} {l} A P h = record {
   some = A .some;
@@ -176,7 +176,7 @@ unfolding filled
 means-left n (Failed e) m₀ m m′ d c = let z : n - 0 ≡ n = omega arith in c ∙ (λ k. replicate (z k) zero64 ++ d k)
 means-left n (Done x j t) m₀ m m′ d c = c ∙ sym (take-append-drop n m) ∙ ap (λ (r : List Float). take n m ++ r) d
 
-pub all-leaves : (w n : ℕ) {R : ℕ} {at : Ending} {ws₀ ws ws′ : List ℕ} {cs₀ cs cs′ m₀ m m′ : List Float} {run : Stage Outcome} → Passes w n at ws₀ ws cs₀ cs m₀ m run → R ≡ rowsIn w ws₀ cs₀
+pub all-leaves : (w n : ℕ) {R : ℕ} {at : Ending} {ws₀ ws ws′ : List ℕ} {cs₀ cs cs′ m₀ m m′ : List Float} {run : Stage Outcome} → AllTold w n at ws₀ ws cs₀ cs m₀ m run → R ≡ rowsIn w ws₀ cs₀
     → Cleared w 0 R ws ws′ cs cs′ → m′ ≡ clearedMeans n at m → AllLeaves w n at ws₀ ws′ cs₀ cs′ m₀ m′ run
 all-leaves w n {R} {at} {ws₀} {ws} {ws′} {cs₀} {cs} {cs′} {m₀} {m} {m′} {run} P e C c =
     let rows : ℕ = rowsIn w ws₀ cs₀ in

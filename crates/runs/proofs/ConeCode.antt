@@ -2,16 +2,16 @@
 -- demand 3 says of `outcomeOf Cone` it says of the code. Assumes nothing.
 use mathlib.Core.Path.{_≡_, refl, sym, ap, _∙_, subst}
 use mathlib.Core.Bool.{Bool, true, false, _||_, _&&_, false≢true}
-use mathlib.Core.List.{List, [], _∷_}
-use Prim.Native.Nat.{ℕ, zero, suc, _+_, _*_, _/_, _%_, _≤_, _<_}
+use mathlib.Core.List.{List}
+use Prim.Native.Nat.{ℕ, zero, suc, _*_, _/_, _%_, _≤_, _<_}
 use native.Mathlib.Nat.{zero-mul}
 use native.Mathlib.Omega.{arith}
 use lib.Dec.{ltb}
-use lib.ListN.{length, getD, take, drop}
+use lib.ListN.{take, drop}
 use lib.Seq.{getD-take}
 use lib.Ieee.{Float}
 use borrow.Author.Tests.{ltb-true}
-use Rattle.words.specs.Keys.{Key, widthOf, bitOf, bitAt, zAt, hasLetter}
+use Rattle.words.specs.Keys.{widthOf, bitOf, bitAt, zAt, hasLetter}
 use Rattle.terms.specs.Lists.{All, tab}
 use Rattle.terms.proofs.AllLaws.{all-imp}
 use Rattle.terms.proofs.CaseLaws.{and-true}
@@ -26,7 +26,7 @@ use Rattle.turns.specs.Runs.{markCone}
 use Rattle.turns.specs.Marks.{letterIn, lettersIn, coneMarks}
 use Rattle.turns.proofs.MarkLaws.{TargetsBelow}
 use Rattle.runs.specs.declared.Run.the-variants.{Cone}
-use Rattle.runs.specs.Task.{Line, Task, width, question2, question3, question4, question5, question6, isOne, passes}
+use Rattle.runs.specs.Task.{Task, width, question2, question3, question4, question5, question6, isOne, passes}
 use Rattle.runs.specs.Outcome.{observed}
 use Rattle.runs.specs.Table.{taskIn, SumRan, ConeRan}
 use Rattle.runs.proofs.CoverLaws.{cone-is}

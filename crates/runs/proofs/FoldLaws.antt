@@ -1,9 +1,9 @@
--- What the fold has to know of its definition. Assumes nothing.
+-- What the proofs of the fold use of its definition. Assumes nothing.
 use mathlib.Core.Path.{_≡_, refl, sym, ap, _∙_, subst, subst⁻¹}
-use mathlib.Core.Bool.{Bool, true, false, cond, _&&_}
+use mathlib.Core.Bool.{Bool, true, false, _&&_}
 use mathlib.Core.List.{List, [], _∷_, _++_}
-use Prim.Native.Nat.{ℕ, zero, suc, _+_, _*_, _/_, _≤_, _<_, max}
-use native.Mathlib.Nat.{le-refl, le-trans}
+use Prim.Native.Nat.{ℕ, _+_, _*_, _/_, _≤_, _<_, max}
+use native.Mathlib.Nat.{le-refl}
 use native.Mathlib.Numerals.{add-one}
 use native.Mathlib.Omega.{arith}
 use lib.Dec.{leb, ltb}
@@ -17,7 +17,7 @@ use Rattle.terms.specs.Lists.{tab}
 use Rattle.terms.specs.Start.{termOf}
 use Rattle.terms.proofs.CaseLaws.{and-true}
 use Rattle.terms.proofs.ListLaws.{tab-snoc}
-use Rattle.rows.specs.Rows.{rowsIn, Stepped, Holds}
+use Rattle.rows.specs.Rows.{rowsIn, Holds}
 use Rattle.rows.specs.Cleared.{Cleared}
 use Rattle.rows.proofs.HoldLaws.{hold-start, hold-trans}
 use Rattle.rows.proofs.StepLaws.{held-rows}
@@ -26,7 +26,7 @@ use Rattle.turns.specs.declared.Ending.{Ending}
 use Rattle.turns.specs.declared.Ending.the-variants.{Done, Failed}
 use Rattle.turns.specs.declared.Limits.{Limits}
 use Rattle.turns.specs.declared.Op.{Op}
-use Rattle.turns.specs.declared.Start.the-variants.{Lines, Alone}
+use Rattle.turns.specs.declared.Start.the-variants.{Alone}
 use Rattle.turns.specs.declared.Tally.{Tally}
 use Rattle.turns.specs.Turn.{Stage, refused, going, bind, ask, Outcome, outcome}
 use Rattle.turns.specs.Runs.{markedRun, begin}

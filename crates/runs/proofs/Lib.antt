@@ -8,3 +8,4 @@ pub mod MarkRuns
 pub mod SumLaws
 pub mod AllRunLaws
 pub mod ConeCode
+pub mod PartedTasks

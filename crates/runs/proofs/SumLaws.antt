@@ -1,8 +1,8 @@
--- What the run of a sum has to know: the lines of the table, and when the sum stands or is folded. Assumes nothing.
+-- What the proof of the run of a sum uses: the lines of the table, and when the sum stands or is folded. Assumes nothing.
 use mathlib.Core.Path.{_≡_, refl, sym, ap, _∙_, subst, subst⁻¹}
 use mathlib.Core.Bool.{Bool, true, false, cond, _&&_, false≢true}
 use mathlib.Core.List.{List, [], _∷_, _++_}
-use Prim.Native.Nat.{ℕ, zero, suc, _+_, _-_, _*_, _≤_, zero-le}
+use Prim.Native.Nat.{ℕ, zero, suc, _-_, _*_, _≤_, zero-le}
 use native.Mathlib.Nat.{le-refl}
 use native.Mathlib.Omega.{arith}
 use lib.Dec.{leb, ltb, eqb}
@@ -15,17 +15,15 @@ use Rattle.terms.specs.Lists.{tab}
 use Rattle.terms.specs.Term.{Term}
 use Rattle.terms.specs.Start.{termOf, merged}
 use Rattle.terms.proofs.ListLaws.{length-tab}
-use Rattle.rows.specs.Rows.{rowsIn, keysOf, coeffsOf, wordsWith, coeffsWith, Stepped, Holds}
+use Rattle.rows.specs.Rows.{rowsIn, keysOf, coeffsOf, wordsWith, coeffsWith, Holds}
 use Rattle.rows.proofs.HoldLaws.{hold-trans}
 use Rattle.rows.proofs.StepLaws.{held-rows}
 use Rattle.rows.proofs.ReadLaws.{step-holds}
-use Rattle.sums.specs.Steps.{linesOf}
 use Rattle.turns.specs.declared.Ending.{Ending}
-use Rattle.turns.specs.declared.Ending.the-variants.{Done, Failed}
+use Rattle.turns.specs.declared.Ending.the-variants.{Failed}
 use Rattle.turns.specs.declared.Limits.{Limits}
 use Rattle.turns.specs.declared.Op.{Op}
 use Rattle.turns.specs.declared.Start.the-variants.{Lines}
-use Rattle.turns.specs.declared.Tally.{Tally}
 use Rattle.turns.specs.Marks.{overlay}
 use Rattle.turns.specs.Turn.{Stage, refused, going, bind, ask, State, Outcome}
 use Rattle.turns.proofs.RunLaws.{bind-same}
@@ -36,7 +34,7 @@ use Rattle.turns.specs.Told.{endingOf, leftBy, Ran}
 use Rattle.turns.proofs.TurnLaws.{emptied}
 use Rattle.runs.specs.Task.{Line, Task, width}
 use Rattle.runs.specs.Outcome.{nothingYet, termsOf, startOf, addLine, addNext, foldLines, askTotals, folded, orFold, sumRun}
-use Rattle.runs.specs.Table.{lineAt, taskIn, sumAsked, SumRan, meetsNine, FoldReady, Folds}
+use Rattle.runs.specs.Table.{lineAt, taskIn, SumRan, meetsNine, FoldReady, Folds}
 
 -- ---- the lines of the table
 

@@ -2,25 +2,22 @@
 use mathlib.Core.Path.{_≡_}
 use Prim.Native.Nat.{ℕ, zero, suc, _*_, _≤_}
 use mathlib.Core.Bool.{Bool, cond, _&&_}
-use mathlib.Core.List.{List, [], _∷_, _++_}
+use mathlib.Core.List.{List, [], _++_}
 use lib.Dec.{leb}
 use lib.ListN.{length, take, drop, set, replicate}
 use lib.Ieee.{Float}
-use Rattle.numbers.specs.Constants.{zero64, one64}
+use Rattle.numbers.specs.Constants.{zero64}
 use Rattle.words.specs.Keys.{widthOf}
-use Rattle.terms.specs.Start.{termOf}
 use Rattle.rows.specs.Rows.{rowsIn, wordsWith, coeffsWith, Holds}
 use Rattle.rows.specs.Cleared.{filled}
 use Rattle.turns.specs.declared.Limits.{Limits}
 use Rattle.turns.specs.declared.Op.{Op}
 use Rattle.turns.specs.declared.Ending.{Ending}
 use Rattle.turns.specs.declared.Ending.the-variants.{Done, Failed}
-use Rattle.turns.specs.Turn.{Stage, refused, going, bind, ask, State, state, Outcome, outcome}
-use Rattle.turns.specs.Runs.{markedRun}
+use Rattle.turns.specs.Turn.{Stage, refused, going, bind, ask, Outcome, outcome}
 use Rattle.turns.specs.Told.{endingOf}
-use Rattle.turns.specs.Given.{zKey}
 use Rattle.runs.specs.Task.{Task}
-use Rattle.runs.specs.Outcome.{nothingYet, addZ, allRuns}
+use Rattle.runs.specs.Outcome.{nothingYet, zStep, allRuns}
 
 -- the task of `all`: "no terms"
 abbrev pub allTask : ℕ → Limits → List Op → Task
@@ -61,14 +58,7 @@ pub record AllRan (qubits : ℕ) (held : Bool) (run : Stage Outcome) (r : Ending
 abbrev pub earlyAll : ℕ → Limits → ℕ → ℕ → ℕ
 earlyAll qubits l rows places = cond (fitsAll qubits l) (cond (roomAll qubits l rows places) 0 7) 2
 
--- one qubit's run, over any marks
-abbrev pub zState : ℕ → ℕ → Outcome → State
-zState w q a = state (termOf w (zKey w q) one64 ∷ []) (a .peak) (a .discarded)
-
-abbrev pub zStep : ℕ → Limits → List Bool → List Op → ℕ → Outcome → Stage Outcome
-zStep w l marks ops q a = bind (markedRun w l marks ops (zState w q a)) (λ o. going (addZ a o))
-
--- the runs of the first k qubits
+-- the runs of the first k qubits, under any marks
 unfoldable pub allTo : ℕ → Limits → List Bool → List Op → ℕ → Stage Outcome
 allTo w l marks ops zero = going nothingYet
 allTo w l marks ops (suc k) = bind (allTo w l marks ops k) (zStep w l marks ops k)
@@ -91,7 +81,7 @@ abbrev pub allIn : ℕ → Ending → List Float → Stage Outcome
 allIn q (Failed n) ms = refused n
 allIn q (Done m n t) ms = going (outcome [] zero64 (take q ms) (t .peak) (t .discarded))
 
-pub record Passes (w q : ℕ) (r : Ending) (ws₀ ws : List ℕ) (cs₀ cs ms₀ ms : List Float) (run : Stage Outcome) : Type 0 where
+pub record AllTold (w q : ℕ) (r : Ending) (ws₀ ws : List ℕ) (cs₀ cs ms₀ ms : List Float) (run : Stage Outcome) : Type 0 where
   pub answer : r ≡ endingOf run
   pub told : allIn q r ms ≡ run
   pub rows : Holds (2 * w) (rowsIn w ws₀ cs₀) 0 [] ws₀ ws cs₀ cs

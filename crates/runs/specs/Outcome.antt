@@ -12,7 +12,8 @@ use Rattle.terms.specs.Start.{termOf, merged}
 use Rattle.turns.specs.declared.Op.{Op}
 use Rattle.turns.specs.Ops.{tCount}
 use Rattle.turns.specs.Given.{zKey}
-use Rattle.turns.specs.Turn.{Stage, refused, going, bind, ask, state, Outcome, outcome}
+use Rattle.turns.specs.declared.Limits.{Limits}
+use Rattle.turns.specs.Turn.{Stage, refused, going, bind, ask, State, state, Outcome, outcome}
 use Rattle.turns.specs.Runs.{markAll, markPath, markCone, markedRun, begin}
 use Rattle.runs.specs.declared.Run.{Run}
 use Rattle.runs.specs.declared.Run.the-variants.{Full, Cone, All, Path}
@@ -66,18 +67,22 @@ abbrev pub sumRun : Task → List Bool → Stage Outcome
 sumRun t ms = orFold t ms (markedRun (width t) (t .limits) ms (t .ops) (begin (startOf (width t) (t .lines))))
 
 -- ---- "`all`: .. one Z mean per qubit"
--- qubit q's run, from the tally so far: "`all` has one running discarded weight and the greatest peak", "the start count (0 in its place)"
-abbrev pub zRun : Task → ℕ → Outcome → Stage Outcome
-zRun t q a = markedRun (width t) (t .limits) (markAll (t .ops)) (t .ops) (state (termOf (width t) (zKey (width t) q) one64 ∷ []) (a .peak) (a .discarded))
+-- qubit q's start, with the tally so far: "`all` has one running discarded weight and the greatest peak", "the start count (0 in its place)"
+abbrev pub zState : ℕ → ℕ → Outcome → State
+zState w q a = state (termOf w (zKey w q) one64 ∷ []) (a .peak) (a .discarded)
 
 -- "For `all`, mean and shown are 0"; "after `all` .. every row is zero"
 abbrev pub addZ : Outcome → Outcome → Outcome
 addZ a o = outcome [] zero64 (a .means ++ (o .mean ∷ [])) (o .peak) (o .discarded)
 
+-- qubit q's run, under marks
+abbrev pub zStep : ℕ → Limits → List Bool → List Op → ℕ → Outcome → Stage Outcome
+zStep w l marks ops q a = bind (markedRun w l marks ops (zState w q a)) (λ o. going (addZ a o))
+
 -- the first k qubits' runs, "each qubit's run before the next begins"
 unfoldable pub allRuns : Task → ℕ → Stage Outcome
 allRuns t zero = going nothingYet
-allRuns t (suc k) = bind (allRuns t k) (λ a. bind (zRun t k a) (λ o. going (addZ a o)))
+allRuns t (suc k) = bind (allRuns t k) (zStep (width t) (t .limits) (markAll (t .ops)) (t .ops) k)
 
 -- ---- the four bars
 -- "starting from the observable's qubits"

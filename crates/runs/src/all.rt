@@ -11,8 +11,8 @@ ghost use Rattle.rows.specs.Cleared.{filled};
 ghost use Rattle.turns.specs.Turn.{bind, going, outcome};
 ghost use Rattle.turns.specs.Runs.{markedRun};
 ghost use Rattle.turns.specs.Told.{endingOf};
-ghost use Rattle.runs.specs.Outcome.{nothingYet};
-ghost use Rattle.runs.specs.Means.{allHeld, allAsked, AllRan, earlyAll, zState, zStep, allTo, AllReady, Answers, allIn, Passes, Added, clearedMeans, AllLeaves};
+ghost use Rattle.runs.specs.Outcome.{nothingYet, zState, zStep};
+ghost use Rattle.runs.specs.Means.{allHeld, allAsked, AllRan, earlyAll, allTo, AllReady, Answers, allIn, AllTold, Added, clearedMeans, AllLeaves};
 use crate::width;
 use rows::clear::clear_rows;
 use rows::row;
@@ -104,7 +104,7 @@ fn all_step(
     at: Ending,
 ) -> Ending
     requires { ⌜ AllReady w (q + 1) limits (now words) (now coeffs) (now means) ⌝ }
-    ensures { λ r. ⌜ Passes w (q + 1) r (now (words .entry)) (now (words .exit)) (now (coeffs .entry)) (now (coeffs .exit)) (now (means .entry)) (now (means .exit))
+    ensures { λ r. ⌜ AllTold w (q + 1) r (now (words .entry)) (now (words .exit)) (now (coeffs .entry)) (now (coeffs .exit)) (now (means .entry)) (now (means .exit))
         (bind (allIn q at (now (means .entry))) (zStep w limits (now (marks .entry)) (take n ops) q)) ⌝ }
 {
     match at {
@@ -143,7 +143,7 @@ fn all_rows(
     qubits: usize,
 ) -> Ending
     requires { ⌜ AllReady w qubits limits (now words) (now coeffs) (now means) ⌝ }
-    ensures { λ r. ⌜ Passes w qubits r (now (words .entry)) (now (words .exit)) (now (coeffs .entry)) (now (coeffs .exit)) (now (means .entry)) (now (means .exit))
+    ensures { λ r. ⌜ AllTold w qubits r (now (words .entry)) (now (words .exit)) (now (coeffs .entry)) (now (coeffs .exit)) (now (means .entry)) (now (means .exit))
         (allTo w limits (now (marks .entry)) (take n ops) qubits) ⌝ }
 {
     let mut at = nothing_yet();

@@ -1,19 +1,14 @@
 // The fold: each line of a sum alone at weight 1, and the totals.
 ghost use mathlib.Core.Path.{_≡_};
-ghost use mathlib.Core.Bool.{true};
-ghost use mathlib.Core.List.{[]};
-ghost use Prim.Native.Nat.{_*_, _≤_, _<_};
-ghost use lib.ListN.{length, take, getD};
+ghost use Prim.Native.Nat.{_*_, _<_};
+ghost use lib.ListN.{take, getD};
 ghost use lib.Ieee.{nan};
 ghost use Rattle.words.specs.Keys.{widthOf};
 ghost use Rattle.terms.specs.Lists.{tab};
-ghost use Rattle.rows.specs.Rows.{rowsIn, Holds, wordsWith, coeffsWith};
-ghost use Rattle.turns.specs.declared.Start.the-variants.{Lines};
 ghost use Rattle.turns.specs.Turn.{bind};
-ghost use Rattle.turns.specs.Given.{isGiven};
 ghost use Rattle.turns.specs.Told.{endingOf};
 ghost use Rattle.runs.specs.Outcome.{nothingYet, addNext, foldLines, folded, askTotals};
-ghost use Rattle.runs.specs.Table.{lineAt, taskIn, heldIn, added, meetsNine, FoldReady, Totals, Folds};
+ghost use Rattle.runs.specs.Table.{lineAt, taskIn, heldIn, added, FoldReady, Totals, Folds};
 use rows::clear::clear_rows;
 use rows::row;
 use turns::Ending;

@@ -1,8 +1,6 @@
 // A run of the sum of the lines, under marks: the sum, or the fold.
 ghost use mathlib.Core.Path.{_≡_};
-ghost use Prim.Native.Nat.{_*_};
 ghost use lib.ListN.{take};
-ghost use Rattle.words.specs.Keys.{widthOf};
 ghost use Rattle.turns.specs.Runs.{markAll, markPath};
 ghost use Rattle.runs.specs.Table.{meetsNine, SumRan, ConeRan};
 use crate::fold;

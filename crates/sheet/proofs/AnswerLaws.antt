@@ -30,9 +30,9 @@ use Rattle.sheet.specs.declared.Asked.the-variants.{Two}
 use Rattle.sheet.specs.declared.Verdict.{Verdict}
 use Rattle.sheet.specs.declared.Verdict.the-variants.{RefusedAt, Passed}
 use Rattle.sheet.specs.Questions.{question2, lineOf, refusedOr, verdict}
-use Rattle.sheet.specs.Answer.{refusal, taskOf, runOf, replyTo, replyOf, LeavesBy, Leaves, Answered}
+use Rattle.sheet.specs.Answer.{limitsOf, refusal, taskOf, runOf, replyTo, replyOf, LeavesBy, Leaves, Answered}
 use Rattle.sheet.specs.Asking.{Sound, earlyVerdict, laterVerdict}
-use Rattle.sheet.specs.Running.{replyEnd, limitsOf, tableTask, tableRun, Runnable, Ended, Cleared, Replied}
+use Rattle.sheet.specs.Running.{replyEnd, tableTask, tableRun, Runnable, Ended, Cleared, Replied}
 use Rattle.sheet.proofs.PassLaws.{answers-of, yes-of, passed-passes}
 use Rattle.sheet.proofs.OutcomeLaws.{reply-of-end}
 

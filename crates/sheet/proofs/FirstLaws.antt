@@ -1,5 +1,5 @@
 -- Laws of the first line that fails. Assumes nothing.
-use mathlib.Core.Path.{_≡_, refl, sym, ap, ap₂, _∙_}
+use mathlib.Core.Path.{_≡_, sym, ap, ap₂, _∙_}
 use Prim.Native.Nat.{ℕ, suc, _+_, _<_, _≤_}
 use native.Mathlib.Numerals.{add-one}
 use native.Mathlib.Nat.{add-zero, add-suc}
@@ -13,7 +13,7 @@ use borrow.Author.Tests.{ne-eqb}
 use Rattle.text.specs.Bytes.{parts, newline}
 use Rattle.layout.specs.declared.Head.{Head}
 use Rattle.layout.specs.Cursor.{lineAt, startAt}
-use Rattle.layout.specs.Layout.{question1, termLines, opList}
+use Rattle.layout.specs.Layout.{question1, termLines}
 use Rattle.layout.proofs.CursorLaws.{line-there}
 use Rattle.lines.specs.TermLines.{lineOn}
 use Rattle.turns.specs.declared.Op.{Op}

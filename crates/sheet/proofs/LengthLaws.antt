@@ -1,6 +1,6 @@
 -- How long a printed text can be: a buffer of 8,192 bytes takes each text that `bench` prints. Assumes nothing.
-use mathlib.Core.Path.{_≡_, refl, sym, ap, _∙_, subst}
-use Prim.Native.Nat.{ℕ, zero, suc, _+_, _*_, _/_, _%_, _≤_, _<_, min}
+use mathlib.Core.Path.{_≡_, refl, ap, _∙_}
+use Prim.Native.Nat.{ℕ, zero, suc, _+_, _*_, _/_, _%_, _≤_}
 use native.Mathlib.Omega.{arith}
 use native.Mathlib.Nat.{min-eq-left}
 use mathlib.Core.Bool.{Bool, true, false, cond}
@@ -12,13 +12,13 @@ use lib.Seq.{take-all, take-append-seam}
 use lib.Ieee.{Float}
 use Rattle.numbers.specs.Bits.{printedBits}
 use Rattle.text.specs.Bytes.{parts, newline, bytes}
-use Rattle.text.specs.Numerals.{decimalText, natText, hexText}
+use Rattle.text.specs.Numerals.{decimalText, natText}
 use Rattle.text.proofs.SpellLaws.{length-hexText}
 use Rattle.turns.specs.Turn.{Stage, refused, going, Outcome}
 use Rattle.runs.specs.declared.Run.{Run}
 use Rattle.runs.specs.declared.Run.the-variants.{Full, Cone, All, Path}
 use Rattle.layout.specs.declared.Head.{Head}
-use Rattle.layout.specs.Layout.{headOf, opList}
+use Rattle.layout.specs.Layout.{headOf}
 use Rattle.replies.specs.declared.Reply.{Reply}
 use Rattle.replies.specs.Printed.{intText, realText, field, zLines, printed}
 use Rattle.replies.specs.Written.{Printing}
@@ -36,8 +36,8 @@ use Rattle.sheet.proofs.OutcomeLaws.{HasMeans, outcome-means}
 record Short (n : ℕ) (s : List ℕ) : Type 0 where
   bound : length s ≤ n
 
-joined : {m n : ℕ} {a b : List ℕ} → Short m a → Short n b → Short (m + n) (a ++ b)
-joined {m} {n} {a} {b} h k = let e = length-append a b in record { bound = omega (arith, h .bound, k .bound, e) }
+after : {m n : ℕ} {a b : List ℕ} → Short m a → Short n b → Short (m + n) (a ++ b)
+after {m} {n} {a} {b} h k = let e = length-append a b in record { bound = omega (arith, h .bound, k .bound, e) }
 
 decimal-short : (d n : ℕ) → Short d (decimalText d n)
 unfolding decimalText
@@ -57,12 +57,12 @@ real-short x = record { bound = omega (arith, length-hexText 16 (printedBits x))
 
 -- a line: its key, its value and the byte 10
 line-short : (k n : ℕ) (key value : List ℕ) → length key ≤ k → Short n value → Short (k + (n + 1)) (field key value)
-line-short k n key value h i = joined {a = key} (record { bound = h }) (joined {a = value} i (record { bound = omega arith }))
+line-short k n key value h i = after {a = key} (record { bound = h }) (after {a = value} i (record { bound = omega arith }))
 
 means-short : (zs : List Float) → Short (19 * length zs) (zLines zs)
 unfolding zLines
 means-short [] = record { bound = omega arith }
-means-short (z ∷ zs) = record { bound = omega (arith, joined (line-short 2 16 (bytes "z=") (realText z) (omega arith) (real-short z)) (means-short zs) .bound) }
+means-short (z ∷ zs) = record { bound = omega (arith, after (line-short 2 16 (bytes "z=") (realText z) (omega arith) (real-short z)) (means-short zs) .bound) }
 
 -- ---- a text: seven lines and the Z means
 printed-short : (r : Reply) (places : List Float) → length places ≤ 256 → length (printed r places) ≤ 8192
@@ -76,7 +76,7 @@ printed-short r places h =
     let count = line-short 8 20 (bytes "t_count=") (natText (r .«t_count»)) (omega arith) (decimal-short 20 (r .«t_count»)) in
     let peak = line-short 11 20 (bytes "peak_terms=") (natText (r .«peak_terms»)) (omega arith) (decimal-short 20 (r .«peak_terms»)) in
     let gone = line-short 10 16 (bytes "discarded=") (realText (r .discarded)) (omega arith) (real-short (r .discarded)) in
-    let text = joined status (joined line (joined mean (joined shown (joined count (joined peak (joined gone (means-short (take (r .means) places)))))))) in
+    let text = after status (after line (after mean (after shown (after count (after peak (after gone (means-short (take (r .means) places)))))))) in
     omega (arith, text .bound, few, h)
 
 -- ---- the texts of `bench`

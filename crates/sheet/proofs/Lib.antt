@@ -11,3 +11,4 @@ pub mod VerdictLaws
 pub mod AnswerLaws
 pub mod ScreenLaws
 pub mod LengthLaws
+pub mod PartedSheets

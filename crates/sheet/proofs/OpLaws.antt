@@ -7,7 +7,6 @@ use Rattle.words.specs.Gates.{hasTwoTargets}
 use Rattle.turns.specs.declared.Op.{Op}
 use Rattle.turns.specs.declared.Op.the-variants.{Native, T, Tdg, Rz, P, Rzz, Pauli, Depol, Damp, Phase, Thermal, Depol2, Barrier}
 use Rattle.turns.specs.declared.marks.Targets.{Targets}
-use Rattle.turns.specs.declared.marks.Targets.the-variants as H
 use Rattle.turns.specs.Ops.{targets}
 use Rattle.turns.specs.Marks.{packed, listOf}
 use Rattle.runs.specs.Task.{every}

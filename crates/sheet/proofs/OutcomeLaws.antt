@@ -3,21 +3,20 @@ use mathlib.Core.Path.{_≡_, refl, ap, _∙_}
 use Prim.Native.Nat.{ℕ, zero, suc}
 use native.Mathlib.Numerals.{add-one}
 use mathlib.Core.Bool.{Bool, true, false, cond, _&&_}
-use mathlib.Core.List.{List, [], _∷_, _++_}
+use mathlib.Core.List.{List, [], _∷_}
 use lib.Dec.{ltb, eqb}
 use lib.ListN.{length, length-append}
-use lib.Ieee.{Float}
 use Rattle.numbers.specs.Tests.{isFinite}
 use Rattle.turns.specs.declared.Limits.{Limits}
 use Rattle.turns.specs.declared.Op.{Op}
 use Rattle.turns.specs.Turn.{Stage, refused, going, bind, ask, State, Outcome, fine, lastDrop, ended, finish}
-use Rattle.turns.specs.Runs.{runs, markedRun, begin}
+use Rattle.turns.specs.Runs.{runs, markedRun, markAll, begin}
 use Rattle.turns.specs.Told.{endingOf, leftBy}
 use Rattle.terms.specs.Mean.{meanOf}
 use Rattle.runs.specs.declared.Run.{Run}
 use Rattle.runs.specs.declared.Run.the-variants.{Full, Cone, All, Path}
 use Rattle.runs.specs.Task.{Line, Task, width}
-use Rattle.runs.specs.Outcome.{startOf, nothingYet, addLine, addNext, alone, foldLines, folded, askTotals, orFold, sumRun, zRun, addZ, allRuns, outcomeOf, tCountOf}
+use Rattle.runs.specs.Outcome.{startOf, nothingYet, addLine, alone, foldLines, folded, askTotals, orFold, sumRun, zState, addZ, zStep, allRuns, outcomeOf, tCountOf}
 use Rattle.sheet.specs.Answer.{replyRun}
 use Rattle.sheet.specs.Running.{meansCount, replyEnd}
 
@@ -81,9 +80,9 @@ all-means t (suc k) = go (allRuns t k) (all-means t k)
     last a h (refused n) = tt
     last a h (going o) = length-append (a .means) (o .mean ∷ []) ∙ add-one (length (a .means)) ∙ ap suc h
 
-    go : (r : Stage Outcome) → HasMeans k r → HasMeans (suc k) (bind r (λ a. bind (zRun t k a) (λ o. going (addZ a o))))
+    go : (r : Stage Outcome) → HasMeans k r → HasMeans (suc k) (bind r (zStep (width t) (t .limits) (markAll (t .ops)) (t .ops) k))
     go (refused n) h = tt
-    go (going a) h = last a h (zRun t k a)
+    go (going a) h = last a h (markedRun (width t) (t .limits) (markAll (t .ops)) (t .ops) (zState (width t) k a))
 
 all-terms : (t : Task) (k : ℕ) → NoTerms (allRuns t k)
 unfolding allRuns
@@ -94,9 +93,9 @@ all-terms t (suc k) = go (allRuns t k)
     last a (refused n) = tt
     last a (going o) = refl
 
-    go : (r : Stage Outcome) → NoTerms (bind r (λ a. bind (zRun t k a) (λ o. going (addZ a o))))
+    go : (r : Stage Outcome) → NoTerms (bind r (zStep (width t) (t .limits) (markAll (t .ops)) (t .ops) k))
     go (refused n) = tt
-    go (going a) = last a (zRun t k a)
+    go (going a) = last a (markedRun (width t) (t .limits) (markAll (t .ops)) (t .ops) (zState (width t) k a))
 
 pub all-left : (t : Task) (k : ℕ) → leftBy (allRuns t k) ≡ []
 all-left t k = go (allRuns t k) (all-terms t k)

@@ -37,8 +37,8 @@ use Rattle.layout.specs.declared.Head.{Head}
 use Rattle.replies.specs.declared.Reply.{Reply}
 use Rattle.terms.specs.Term.{Term}
 use Rattle.sheet.specs.Questions.{placesFit}
-use Rattle.sheet.specs.Answer.{reply, refusal, meansAfter}
-use Rattle.sheet.specs.Running.{meansCount, replyEnd, limitsOf, tableTask, tableRun, Runnable, Ended}
+use Rattle.sheet.specs.Answer.{limitsOf, reply, refusal, meansAfter}
+use Rattle.sheet.specs.Running.{meansCount, replyEnd, tableTask, tableRun, Runnable, Ended}
 
 -- ---- the reply
 pub reply-failed : (run : Run) (q t n : ℕ) (end : Ending) (r : Reply) → end ≡ Failed n → r ≡ refusal n 0 → r ≡ replyEnd run q t end

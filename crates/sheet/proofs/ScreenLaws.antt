@@ -1,10 +1,10 @@
 -- What is printed of an answer that was made with 512 rows and 256 mean places. Assumes nothing.
 use mathlib.Core.Path.{_≡_, refl, sym, ap, _∙_, subst}
-use Prim.Native.Nat.{ℕ, zero, suc, _+_, _*_, _/_, _≤_, _<_, min}
+use Prim.Native.Nat.{ℕ, zero, suc, _*_, _/_, _≤_, _<_, min}
 use native.Mathlib.Omega.{arith}
-use mathlib.Core.Bool.{Bool, true, false, cond, _&&_}
-use mathlib.Core.List.{List, [], _++_}
-use lib.Dec.{leb, ltb}
+use mathlib.Core.Bool.{Bool, cond}
+use mathlib.Core.List.{List, []}
+use lib.Dec.{leb}
 use lib.ListN.{length, take, drop}
 use lib.Seq.{take-length, take-append-seam}
 use lib.Ieee.{Float}
@@ -20,18 +20,17 @@ use Rattle.runs.specs.declared.Run.the-variants.{Full, Cone, All, Path}
 use Rattle.layout.specs.declared.Head.{Head}
 use Rattle.layout.specs.Layout.{headOf, termLines, opList}
 use Rattle.replies.specs.declared.Reply.{Reply}
-use Rattle.replies.specs.Printed.{zLines, printed}
+use Rattle.replies.specs.Printed.{printed}
 use Rattle.replies.specs.Written.{Printing}
-use Rattle.sheet.specs.declared.Asked.the-variants.{Two}
 use Rattle.sheet.specs.declared.Verdict.{Verdict}
 use Rattle.sheet.specs.declared.Verdict.the-variants.{RefusedAt, Passed}
-use Rattle.sheet.specs.Questions.{question2, lineOf, verdict}
+use Rattle.sheet.specs.Questions.{question2, verdict}
 use Rattle.sheet.specs.Answer.{refusal, runOf, taskOf, replyRun, replyTo, replyOf, meansAfter, meansRun, meansTo, LeavesBy, Answered, printedOf}
 use Rattle.sheet.specs.Asking.{earlyVerdict}
 use Rattle.sheet.specs.Running.{meansCount}
 use Rattle.sheet.specs.Screen.{bench}
 use Rattle.sheet.proofs.PassLaws.{yes-of}
-use Rattle.sheet.proofs.AnswerLaws.{early-laid, early-passed, early-refused}
+use Rattle.sheet.proofs.AnswerLaws.{early-laid, early-refused}
 use Rattle.sheet.proofs.OutcomeLaws.{HasMeans, outcome-means}
 
 -- ---- 512 rows

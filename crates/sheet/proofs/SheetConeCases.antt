@@ -11,7 +11,7 @@ use Rattle.runs.specs.LightCone.{Equal, Which, one, another, Way, asFull, asCon
 use Rattle.replies.specs.declared.Reply.{Reply}
 use Rattle.replies.specs.Printed.{printed}
 use Rattle.sheet.specs.Answer.{reply, replyOf}
-use Rattle.sheet.specs.SheetCone.{joined, bytesAs, these, PassesIn, taskIn, SameReply, uncounted, DemandOfBytes}
+use Rattle.sheet.specs.SheetCone.{rejoined, bytesAs, these, PassesIn, taskOfBytes, SameReply, uncounted, DemandOfBytes}
 use Rattle.sheet.proofs.Cases.{computed, text}
 use Rattle.sheet.proofs.SheetDemand.{demand3-of-bytes, bytes-own}
 
@@ -35,14 +35,14 @@ abbrev places : Which → Way → ℕ
 places i v = 0
 
 pass : (i : Which) (v : Way) → PassesIn (bytesAs v (these i first second)) (rows i v) (places i v)
-unfolding computed joined
+unfolding computed rejoined
 pass one asFull = refl
 pass one asCone = refl
 pass another asFull = refl
 pass another asCone = refl
 
-agree : Agree (taskIn (bytesAs asFull first)) (taskIn (bytesAs asFull second))
-unfolding computed joined chosen
+agree : Agree (taskOfBytes (bytesAs asFull first)) (taskOfBytes (bytesAs asFull second))
+unfolding computed rejoined chosen
 agree = record {
   qubits = refl;
   observable = refl;

@@ -29,7 +29,7 @@ use Rattle.layout.specs.Layout.{headOf}
 use Rattle.layout.proofs.LaidLaws.{laid-length}
 use Rattle.replies.specs.Printed.{printed}
 use Rattle.sheet.specs.Answer.{taskOf, reply, replyRun, replyTo, replyOf}
-use Rattle.sheet.specs.SheetCone.{runLine, joined, bytesAs, these, PassesIn, taskIn, SameReply, uncounted, DemandOfBytes, Demand3OfBytes}
+use Rattle.sheet.specs.SheetCone.{runLine, rejoined, bytesAs, these, PassesIn, taskOfBytes, SameReply, uncounted, DemandOfBytes, Demand3OfBytes}
 use Rattle.sheet.proofs.PassLaws.{answers-of, passed-passes, sheet-values-are}
 
 -- ---- lines have no byte 10 in them
@@ -79,7 +79,7 @@ some-set [] i p h = h
 some-set (q ∷ ps) zero p h = tt
 some-set (q ∷ ps) (suc i) p h = tt
 
--- ---- the lines of joined lines are those lines
+-- ---- the lines of rejoined lines are those lines
 parts-one : (p : List ℕ) → Clean p → parts newline p ≡ p ∷ []
 unfolding parts onFirst
 parts-one [] h = refl
@@ -91,17 +91,17 @@ parts-cut [] r h = refl
 parts-cut (b ∷ p) r h =
     ap (λ (c : Bool). cond c ([] ∷ parts newline (p ++ (newline ∷ r))) (onFirst b (parts newline (p ++ (newline ∷ r))))) (h .0) ∙ ap (onFirst b) (parts-cut p r (h .1))
 
-parts-joined : (ps : List (List ℕ)) → Some ps → All Clean ps → parts newline (joined ps) ≡ ps
-unfolding joined
-parts-joined [] h k = absurd h
-parts-joined (p ∷ []) h k = parts-one p (k .0)
-parts-joined (p ∷ q ∷ ps) h k = parts-cut p (joined (q ∷ ps)) (k .0) ∙ ap {B = List (List ℕ)} (λ (r : List (List ℕ)). p ∷ r) (parts-joined (q ∷ ps) tt (k .1))
+parts-rejoined : (ps : List (List ℕ)) → Some ps → All Clean ps → parts newline (rejoined ps) ≡ ps
+unfolding rejoined
+parts-rejoined [] h k = absurd h
+parts-rejoined (p ∷ []) h k = parts-one p (k .0)
+parts-rejoined (p ∷ q ∷ ps) h k = parts-cut p (rejoined (q ∷ ps)) (k .0) ∙ ap {B = List (List ℕ)} (λ (r : List (List ℕ)). p ∷ r) (parts-rejoined (q ∷ ps) tt (k .1))
 
 -- the lines of a sheet with another second line
 pub lines-as : (v : Way) (s : List ℕ) → parts newline (bytesAs v s) ≡ set (parts newline s) 1 (runLine v)
 lines-as v s =
     let ls = parts newline s in
-    parts-joined (set ls 1 (runLine v)) (some-set ls 1 (runLine v) (some-parts s)) (clean-set ls 1 (runLine v) (clean-run v) (clean-parts s))
+    parts-rejoined (set ls 1 (runLine v)) (some-set ls 1 (runLine v) (some-parts s)) (clean-set ls 1 (runLine v) (clean-run v) (clean-parts s))
 
 -- ---- "the other lines as they are": the second line says which run, and nothing else of the task
 same-task : (ls : List (List ℕ)) (l : List ℕ) → taskOf (headOf (set ls 1 l)) (set ls 1 l) ≡ taskOf (headOf ls) ls
@@ -120,7 +120,7 @@ same-task (p ∷ q ∷ ps) l =
     (ap (λ (k : List ℕ). orZero (count (bytes "ops=") k)) (getD-set-other ls 1 (6 + h .terms) l [] (λ e. omega arith)))
     (drop-set-lt (7 + h .terms) ls 1 l (omega arith))
 
-pub task-as : (v : Way) (s : List ℕ) → taskIn (bytesAs v s) ≡ taskIn s
+pub task-as : (v : Way) (s : List ℕ) → taskOfBytes (bytesAs v s) ≡ taskOfBytes s
 task-as v s = ap (λ (ls : List (List ℕ)). taskOf (headOf ls) ls) (lines-as v s) ∙ same-task (parts newline s) (runLine v)
 
 run-read : (v : Way) → orFull (runField (runLine v)) ≡ runAs v
@@ -146,11 +146,11 @@ module _ (v : Way) (s : List ℕ) (rows places : ℕ) (e : PassesIn (bytesAs v s
   run-as : headOf laid .run ≡ runAs v
   run-as = ap (λ (ls : List (List ℕ)). headOf ls .run) (lines-as v s) ∙ run-set v (parts newline s) two-lines
 
-  passes-as : passes (runAs v) (taskIn s) ≡ true
+  passes-as : passes (runAs v) (taskOfBytes s) ≡ true
   passes-as = ap₂ passes (sym run-as) (sym (task-as v s)) ∙ passed-passes (headOf laid) laid rows places e
 
   -- the reply is that of the run
-  reply-as : replyOf (bytesAs v s) rows places ≡ replyRun (runAs v) (taskIn s .ops) (endAs v (taskIn s))
+  reply-as : replyOf (bytesAs v s) rows places ≡ replyRun (runAs v) (taskOfBytes s .ops) (endAs v (taskOfBytes s))
   unfolding replyOf
   reply-as = ap (replyTo (headOf laid) laid) e ∙ ap₂ (λ (r : Run) (t : Task). replyRun r (t .ops) (outcomeOf r t)) run-as (task-as v s)
 
@@ -173,41 +173,41 @@ same-printed r q os ps (goes {s} {t} e) = same-text s t e
 -- ---- the theorem
 module _ (s u : List ℕ) (rows places : Which → Way → ℕ)
     (pass : (i : Which) (v : Way) → PassesIn (bytesAs v (these i s u)) (rows i v) (places i v))
-    (agree : Agree (taskIn (bytesAs asFull s)) (taskIn (bytesAs asFull u))) where
-  values-agree : Agree (taskIn s) (taskIn u)
-  values-agree = subst (λ (t : Task). Agree t (taskIn u)) (task-as asFull s) (subst (λ (t : Task). Agree (taskIn (bytesAs asFull s)) t) (task-as asFull u) agree)
+    (agree : Agree (taskOfBytes (bytesAs asFull s)) (taskOfBytes (bytesAs asFull u))) where
+  values-agree : Agree (taskOfBytes s) (taskOfBytes u)
+  values-agree = subst (λ (t : Task). Agree t (taskOfBytes u)) (task-as asFull s) (subst (λ (t : Task). Agree (taskOfBytes (bytesAs asFull s)) t) (task-as asFull u) agree)
 
-  values-pass : (i : Which) → Passes (taskIn (these i s u))
+  values-pass : (i : Which) → Passes (taskOfBytes (these i s u))
   values-pass i v = passes-as v (these i s u) (rows i v) (places i v) (pass i v)
 
-  values-read : (x : List ℕ) → Binary64Values (taskIn x)
+  values-read : (x : List ℕ) → Binary64Values (taskOfBytes x)
   values-read x = sheet-values-are (parts newline x)
 
-  of-values : Demand (taskIn s) (taskIn u)
-  of-values = demand3 (taskIn s) (taskIn u) (values-read s) (values-read u) (values-pass one) (values-pass another) values-agree
+  of-values : Demand (taskOfBytes s) (taskOfBytes u)
+  of-values = demand3 (taskOfBytes s) (taskOfBytes u) (values-read s) (values-read u) (values-pass one) (values-pass another) values-agree
 
-  picked : (i : Which) → taskIn (these i s u) ≡ pick i (taskIn s) (taskIn u)
+  picked : (i : Which) → taskOfBytes (these i s u) ≡ pick i (taskOfBytes s) (taskOfBytes u)
   picked one = refl
   picked another = refl
 
   -- the reply of each of the four runs
   replied : (i : Which) (v : Way)
-      → replyOf (bytesAs v (these i s u)) (rows i v) (places i v) ≡ replyRun (runAs v) (pick i (taskIn s) (taskIn u) .ops) (endAs v (pick i (taskIn s) (taskIn u)))
+      → replyOf (bytesAs v (these i s u)) (rows i v) (places i v) ≡ replyRun (runAs v) (pick i (taskOfBytes s) (taskOfBytes u) .ops) (endAs v (pick i (taskOfBytes s) (taskOfBytes u)))
   replied i v =
       reply-as v (these i s u) (rows i v) (places i v) (pass i v) ∙ ap (λ (t : Task). replyRun (runAs v) (t .ops) (endAs v t)) (picked i)
 
   of-bytes : DemandOfBytes s u rows places
   of-bytes = record {
     sameReply = λ i j v w. rw (replied i v, replied j w)
-        (same-reply (runAs v) (runAs w) (pick i (taskIn s) (taskIn u) .ops) (pick j (taskIn s) (taskIn u) .ops) (of-values .sameEnd i j v w));
+        (same-reply (runAs v) (runAs w) (pick i (taskOfBytes s) (taskOfBytes u) .ops) (pick j (taskOfBytes s) (taskOfBytes u) .ops) (of-values .sameEnd i j v w));
     samePrinted = λ i j v w. rw (replied i v, replied j w)
-        (same-printed (runAs v) (runAs w) (pick i (taskIn s) (taskIn u) .ops) (pick j (taskIn s) (taskIn u) .ops)
-        (near-ends (taskIn s) (taskIn u) (values-read s) (values-read u) (values-pass one) (values-pass another) values-agree i j v w));
+        (same-printed (runAs v) (runAs w) (pick i (taskOfBytes s) (taskOfBytes u) .ops) (pick j (taskOfBytes s) (taskOfBytes u) .ops)
+        (near-ends (taskOfBytes s) (taskOfBytes u) (values-read s) (values-read u) (values-pass one) (values-pass another) values-agree i j v w));
     sameTask = same-tasks;
-    demand = subst (λ (t : Task). Demand t (taskIn (bytesAs asFull u))) (sym (task-as asFull s)) (subst (λ (t : Task). Demand (taskIn s) t) (sym (task-as asFull u)) of-values);
+    demand = subst (λ (t : Task). Demand t (taskOfBytes (bytesAs asFull u))) (sym (task-as asFull s)) (subst (λ (t : Task). Demand (taskOfBytes s) t) (sym (task-as asFull u)) of-values);
   }
     where
-      same-tasks : (i : Which) (v : Way) → taskIn (bytesAs v (these i s u)) ≡ pick i (taskIn (bytesAs asFull s)) (taskIn (bytesAs asFull u))
+      same-tasks : (i : Which) (v : Way) → taskOfBytes (bytesAs v (these i s u)) ≡ pick i (taskOfBytes (bytesAs asFull s)) (taskOfBytes (bytesAs asFull u))
       same-tasks one v = task-as v s ∙ sym (task-as asFull s)
       same-tasks another v = task-as v u ∙ sym (task-as asFull u)
 
@@ -215,20 +215,20 @@ pub demand3-of-bytes : Demand3OfBytes
 demand3-of-bytes = of-bytes
 
 -- ---- a sheet that has a run's line already is that run's sheet, byte for byte
-joined-first : (b : ℕ) (p : List ℕ) (ps : List (List ℕ)) → joined ((b ∷ p) ∷ ps) ≡ b ∷ joined (p ∷ ps)
-unfolding joined
+joined-first : (b : ℕ) (p : List ℕ) (ps : List (List ℕ)) → rejoined ((b ∷ p) ∷ ps) ≡ b ∷ rejoined (p ∷ ps)
+unfolding rejoined
 joined-first b p [] = refl
 joined-first b p (q ∷ ps) = refl
 
-joined-parts : (s : List ℕ) → joined (parts newline s) ≡ s
-unfolding parts joined onFirst
+joined-parts : (s : List ℕ) → rejoined (parts newline s) ≡ s
+unfolding parts rejoined onFirst
 joined-parts [] = refl
 joined-parts (b ∷ s) = go (eqb b newline) refl (parts newline s) (some-parts s) (joined-parts s)
   where
-    go : (c : Bool) → eqb b newline ≡ c → (ps : List (List ℕ)) → Some ps → joined ps ≡ s → joined (cond c ([] ∷ ps) (onFirst b ps)) ≡ b ∷ s
+    go : (c : Bool) → eqb b newline ≡ c → (ps : List (List ℕ)) → Some ps → rejoined ps ≡ s → rejoined (cond c ([] ∷ ps) (onFirst b ps)) ≡ b ∷ s
     go c e [] h k = absurd h
     go true e (p ∷ ps) h k = ap₂ {C = List ℕ} _∷_ (sym (eqb-true b newline e)) k
     go false e (p ∷ ps) h k = joined-first b p ps ∙ ap {B = List ℕ} (λ (r : List ℕ). b ∷ r) k
 
 pub bytes-own : (v : Way) (s : List ℕ) → getD (parts newline s) 1 [] ≡ runLine v → bytesAs v s ≡ s
-bytes-own v s h = ap (λ (l : List ℕ). joined (set (parts newline s) 1 l)) (sym h) ∙ ap joined (set-getD (parts newline s) 1 []) ∙ joined-parts s
+bytes-own v s h = ap (λ (l : List ℕ). rejoined (set (parts newline s) 1 l)) (sym h) ∙ ap rejoined (set-getD (parts newline s) 1 []) ∙ joined-parts s

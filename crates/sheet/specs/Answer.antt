@@ -10,6 +10,7 @@ use Rattle.numbers.specs.Shown.{shownOf}
 use Rattle.words.specs.Keys.{widthOf}
 use Rattle.rows.specs.Rows.{rowsIn, wordsWith, coeffsWith}
 use Rattle.text.specs.Bytes.{parts, newline}
+use Rattle.turns.specs.declared.Limits.{Limits}
 use Rattle.turns.specs.declared.Op.{Op}
 use Rattle.turns.specs.Turn.{Stage, refused, going, Outcome}
 use Rattle.turns.specs.Told.{leftBy}
@@ -29,11 +30,14 @@ use Rattle.sheet.specs.Questions.{verdict}
 
 -- ---- the run of a sheet
 
+abbrev pub limitsOf : Head → Limits
+limitsOf h = record { epsilon = h .epsilon; «max_terms» = h .«max_terms»; limit = h .limit }
+
 -- what the sheet gives a run
 abbrev pub taskOf : Head → List (List ℕ) → Task
 taskOf h ls = record {
   qubits = h .qubits;
-  limits = record { epsilon = h .epsilon; «max_terms» = h .«max_terms»; limit = h .limit };
+  limits = limitsOf h;
   lines = map (wordLine (widthOf (h .qubits))) (termLines h ls);
   ops = opList h ls;
 }

@@ -26,7 +26,7 @@ use Rattle.replies.specs.declared.Reply.{Reply}
 use Rattle.sheet.specs.declared.Verdict.{Verdict}
 use Rattle.sheet.specs.declared.Verdict.the-variants.{Passed}
 use Rattle.sheet.specs.Questions.{question7, verdict}
-use Rattle.sheet.specs.Answer.{reply, refusal, replyTo, Leaves, LeavesBy}
+use Rattle.sheet.specs.Answer.{limitsOf, reply, refusal, replyTo, Leaves, LeavesBy}
 use Rattle.sheet.specs.Asking.{Sound}
 
 -- how many Z means a run that succeeds leaves
@@ -40,9 +40,6 @@ meansCount Path qubits = 0
 abbrev pub replyEnd : Run → ℕ → ℕ → Ending → Reply
 replyEnd r qubits t (Failed n) = refusal n 0
 replyEnd r qubits t (Done m n u) = reply 0 0 m (shownOf m) t (u .peak) (u .discarded) (meansCount r qubits)
-
-abbrev pub limitsOf : Head → Limits
-limitsOf h = record { epsilon = h .epsilon; «max_terms» = h .«max_terms»; limit = h .limit }
 
 -- the task in a table
 abbrev pub tableTask : Head → List ℕ → List Float → List Op → Task

@@ -20,14 +20,14 @@ runLine asFull = bytes "run=full"
 runLine asCone = bytes "run=cone"
 
 -- lines with byte 10 between them
-unfoldable pub joined : List (List ℕ) → List ℕ
-joined [] = []
-joined (p ∷ []) = p
-joined (p ∷ q ∷ ps) = p ++ (newline ∷ joined (q ∷ ps))
+unfoldable pub rejoined : List (List ℕ) → List ℕ
+rejoined [] = []
+rejoined (p ∷ []) = p
+rejoined (p ∷ q ∷ ps) = p ++ (newline ∷ rejoined (q ∷ ps))
 
 -- the bytes of a sheet with another second line
 abbrev pub bytesAs : Way → List ℕ → List ℕ
-bytesAs v s = joined (set (parts newline s) 1 (runLine v))
+bytesAs v s = rejoined (set (parts newline s) 1 (runLine v))
 
 abbrev pub these : Which → List ℕ → List ℕ → List ℕ
 these one s u = s
@@ -38,8 +38,8 @@ abbrev pub PassesIn : List ℕ → ℕ → ℕ → Type 0
 PassesIn s rows places = let ls = parts newline s in verdict (headOf ls) ls rows places ≡ Passed
 
 -- the values of a sheet
-abbrev pub taskIn : List ℕ → Task
-taskIn s = let ls = parts newline s in taskOf (headOf ls) ls
+abbrev pub taskOfBytes : List ℕ → Task
+taskOfBytes s = let ls = parts newline s in taskOf (headOf ls) ls
 
 -- ---- "end in the same refusal, number and line, or all succeed with numerically equal means and discarded weights and equal peaks"
 -- (the status of success is 0, of a refusal its number, and a refusal's results are zeros)
@@ -62,12 +62,12 @@ pub record DemandOfBytes (s u : List ℕ) (rows places : Which → Way → ℕ) 
       → printed (uncounted (replyOf (bytesAs v (these i s u)) (rows i v) (places i v))) [] ≡ printed (uncounted (replyOf (bytesAs w (these j s u)) (rows j w) (places j w))) []
   -- the values are the same both ways, and of their runs all holds that crate runs states: the same end, and at every turn of an unmarked op
   -- identities only
-  pub sameTask : (i : Which) (v : Way) → taskIn (bytesAs v (these i s u)) ≡ pick i (taskIn (bytesAs asFull s)) (taskIn (bytesAs asFull u))
-  pub demand : Demand (taskIn (bytesAs asFull s)) (taskIn (bytesAs asFull u))
+  pub sameTask : (i : Which) (v : Way) → taskOfBytes (bytesAs v (these i s u)) ≡ pick i (taskOfBytes (bytesAs asFull s)) (taskOfBytes (bytesAs asFull u))
+  pub demand : Demand (taskOfBytes (bytesAs asFull s)) (taskOfBytes (bytesAs asFull u))
 
 -- "for every two .. sheets that pass every question put before the run, .. agreeing in .."
 abbrev pub Demand3OfBytes : Type 0
 Demand3OfBytes = (s u : List ℕ) (rows places : Which → Way → ℕ)
     → ((i : Which) (v : Way) → PassesIn (bytesAs v (these i s u)) (rows i v) (places i v))
-    → Agree (taskIn (bytesAs asFull s)) (taskIn (bytesAs asFull u))
+    → Agree (taskOfBytes (bytesAs asFull s)) (taskOfBytes (bytesAs asFull u))
     → DemandOfBytes s u rows places

@@ -1,6 +1,7 @@
 // The run of a sheet that passed the questions.
 ghost use mathlib.Core.Path.{_≡_};
-ghost use Rattle.sheet.specs.Running.{limitsOf, Runnable, Ended, tableRun};
+ghost use Rattle.sheet.specs.Answer.{limitsOf};
+ghost use Rattle.sheet.specs.Running.{Runnable, Ended, tableRun};
 use layout::Head;
 use runs::Run;
 use runs::all::run_spd_lowered;

@@ -1,5 +1,4 @@
 // What the program `bench` prints.
-ghost use mathlib.Core.Bool.{cond};
 ghost use mathlib.Core.List.{[]};
 ghost use Rattle.replies.specs.Written.{Printing};
 ghost use Rattle.replies.specs.Printed.{printed};

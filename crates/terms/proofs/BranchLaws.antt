@@ -14,7 +14,7 @@ use lib.Ieee.{Float}
 use borrow.Author.Tests.{lt-ltb, le-ltb, eq-eqb, ne-eqb}
 use Rattle.numbers.specs.Tests.{isZero}
 use Rattle.words.specs.Keys.{Key, sameKey}
-use Rattle.words.proofs.KeyLaws.{sameKey-sym, sameKey-eq, sameKey-refl}
+use Rattle.words.proofs.KeyLaws.{sameKey-sym, sameKey-eq}
 use Rattle.terms.specs.declared.Complex64.{Complex64}
 use Rattle.terms.specs.declared.Found.{Found}
 use Rattle.terms.specs.declared.Found.the-variants.{At, Nothing}
@@ -22,7 +22,7 @@ use Rattle.terms.specs.Coefficient.{scaledOf}
 use Rattle.terms.specs.Lists.{tab, All}
 use Rattle.terms.specs.Term.{Term, term, noTerm, Distinct, find}
 use Rattle.terms.specs.Rotation.{scaledMet, flippedTerm, mixed, turnedTerm, appendedTerm, turnedRow, appendedRows, rotated}
-use Rattle.terms.specs.Branch.{orAt, first, rowOf, branchPair, branchLone, branchBy, branchRow, branchTo, branched}
+use Rattle.terms.specs.Branch.{first, rowOf, branchPair, branchLone, branchBy, branchRow, branchTo, branched}
 use Rattle.terms.proofs.CaseLaws.{same-test, lt-or-le, eq-or-ne, bool-cases}
 use Rattle.terms.proofs.ListLaws.{length-tab, getD-tab, tab-ext, tab-set, map-tab}
 use Rattle.terms.proofs.FirstLaws.{orLater, first-cons, first-ext, first-at, first-nothing}

@@ -1,23 +1,19 @@
 -- How many terms there are after a step: no more after truncation and merge, at most twice as many after a channel and a rotation. Assumes nothing.
 use mathlib.Core.Bool.{Bool, true, false, cond}
 use mathlib.Core.List.{List, [], _∷_, _++_, map}
-use Prim.Native.Nat.{ℕ, zero, suc, _+_, _*_, _≤_}
+use Prim.Native.Nat.{ℕ, _+_, _*_, _≤_}
 use native.Mathlib.Omega.{arith}
-use lib.Dec.{ltb}
-use lib.ListN.{length, getD, length-append, length-set, length-map}
+use lib.ListN.{length, length-append, length-map}
 use lib.Ieee.{Float}
 use Rattle.numbers.specs.Tests.{isZero}
 use Rattle.words.specs.Keys.{Key}
 use Rattle.terms.specs.declared.ChannelAction.{ChannelAction}
 use Rattle.terms.specs.declared.ChannelKind.{ChannelKind}
 use Rattle.terms.specs.declared.ChannelKind.the-variants.{Local, Depolarizing2q}
-use Rattle.terms.specs.declared.Found.{Found}
-use Rattle.terms.specs.declared.Found.the-variants.{At, Nothing}
 use Rattle.terms.specs.Lists.{foldl}
-use Rattle.terms.specs.Term.{Term, noTerm, isIn}
+use Rattle.terms.specs.Term.{Term, isIn}
 use Rattle.terms.specs.Start.{share, coalesced, merged}
 use Rattle.terms.specs.Rotation.{scaledMet, turnedRow, appendedRows, rotated}
-use Rattle.terms.specs.Branch.{rowOf, branchBy, branchRow, branchTo}
 use Rattle.terms.specs.Channel.{isZLetter, insert, branch, channelBy, channeled}
 use Rattle.terms.specs.Truncation.{isSmall, keptOf}
 use Rattle.terms.proofs.DistinctLaws.{addTo-length}
@@ -83,14 +79,6 @@ channeled-count w a b c ts = by (c .kind)
 
 -- ---- a rotation
 
--- no term lost and at most one more: what a row does in place
-abbrev pub Grows : List Term → List Term → Type 0
-Grows ts us = (length ts ≤ length us) × (length us ≤ length ts + 1)
-
-either : (b : Bool) (ts us vs : List Term) → Grows ts us → Grows ts vs → Grows ts (cond b us vs)
-either true ts us vs x y = x
-either false ts us vs x y = y
-
 module _ (met : Key → Bool) (partner : Key → Key) (sin cos : Float) where
   appended-count : (old ts : List Term) → length (appendedRows met partner sin cos old ts) ≤ length ts
   unfolding appendedRows
@@ -106,19 +94,3 @@ module _ (met : Key → Bool) (partner : Key → Key) (sin cos : Float) where
       go : (z : Bool) → length (cond z (map (scaledMet met partner sin cos) ts) (map (turnedRow met partner sin cos ts) ts ++ appendedRows met partner sin cos ts ts)) ≤ 2 * length ts
       go true = rw length-map (omega arith)
       go false = simp (length-append, length-map) (omega (arith, appended-count ts ts))
-
-  branchBy-count : (i : ℕ) (ts : List Term) (f : Found) → Grows ts (branchBy met partner sin cos i ts f)
-  branchBy-count i ts (At j) = either (ltb i j) ts _ ts (simp length-set (omega arith)) (omega arith)
-  branchBy-count i ts Nothing = either (isZero cos) ts _ _ (simp length-set (omega arith)) (simp (length-append, length-set) (omega arith))
-
-  pub branchRow-count : (n i : ℕ) (ts : List Term) → Grows ts (branchRow met partner sin cos n i ts)
-  unfolding branchRow
-  branchRow-count n i ts = either (met (getD ts i noTerm .key)) ts _ ts (branchBy-count i ts (rowOf n (partner (getD ts i noTerm .key)) ts)) (omega arith)
-
-  pub branchTo-count : (n i : ℕ) (ts : List Term) → (length ts ≤ length (branchTo met partner sin cos n i ts)) × (length (branchTo met partner sin cos n i ts) ≤ length ts + i)
-  unfolding branchTo
-  branchTo-count n zero ts = omega arith
-  branchTo-count n (suc i) ts =
-      let h = branchTo-count n i ts in
-      let g = branchRow-count n i (branchTo met partner sin cos n i ts) in
-      omega arith

@@ -2,7 +2,6 @@
 use mathlib.Core.Path.{_≡_, refl, sym, ap, ap₂, _∙_}
 use mathlib.Core.Bool.{Bool, true, false, cond, _||_}
 use mathlib.Core.List.{List, [], _∷_}
-use Prim.Native.Nat.{ℕ, suc}
 use lib.ListN.{length, getD, set}
 use Rattle.words.specs.Keys.{Key, sameKey}
 use Rattle.words.proofs.KeyLaws.{sameKey-sym}

@@ -1,16 +1,15 @@
 -- The identity branches added in place, row after row: a term with the letter Z at the target is still the old one when its turn comes.
 -- Assumes nothing.
-use mathlib.Core.Path.{_≡_, refl, sym, ap, _∙_, subst}
-use mathlib.Core.Bool.{Bool, true, false, cond, not, _&&_, false≢true}
+use mathlib.Core.Path.{_≡_, refl, sym, ap, _∙_}
+use mathlib.Core.Bool.{Bool, true, false, cond, not, false≢true}
 use mathlib.Core.List.{List, [], _∷_, _++_}
-use Prim.Native.Nat.{ℕ, zero, suc, _+_, _*_, _/_, _≤_, _<_}
-use native.Mathlib.Nat.{le-of-lt}
+use Prim.Native.Nat.{ℕ, zero, suc, _+_, _≤_, _<_}
 use native.Mathlib.Numerals.{add-one}
 use native.Mathlib.Omega.{arith}
 use lib.ListN.{length, getD, take, length-append, List·getD-append}
 use lib.Seq.{take-suc}
 use lib.Ieee.{Float}
-use Rattle.words.specs.Keys.{Key, bitOf, bitAt, flipAt, zAt, sameKey}
+use Rattle.words.specs.Keys.{Key, bitAt, flipAt, zAt, sameKey}
 use Rattle.words.proofs.KeyLaws.{bitAt-cleared, sameKey-ne}
 use Rattle.terms.specs.declared.Complex64.{Complex64}
 use Rattle.terms.specs.Lists.{foldl}

@@ -1,6 +1,6 @@
 -- Where a step acts: it changes nothing where no term has a letter at its targets, and gives no term a letter elsewhere. Assumes nothing.
 use Prim.Native.Nat.{ℕ, _*_, _<_}
-use mathlib.Core.Path.{_≡_, refl, sym, ap, ap₂, _∙_, subst}
+use mathlib.Core.Path.{_≡_, refl, sym, ap, ap₂, _∙_}
 use mathlib.Core.Bool.{Bool, true, false, _&&_, _||_, cond, false≢true}
 use mathlib.Core.Logic.{_≢_}
 use mathlib.Core.List.{List, [], _∷_, _++_, map, append-nil}
@@ -24,7 +24,6 @@ use Rattle.terms.specs.Rotation.{metBy, partnerBy, scaledMet, turnedRow,
 use Rattle.terms.specs.Channel.{branch, scaledLetter, scaledLocal, scaledEither, channelBy, channeled}
 use Rattle.terms.specs.Truncation.{keptOf}
 use Rattle.terms.proofs.AllLaws.{all-imp, all-and}
-use Rattle.terms.proofs.NearLaws.{Near, each-all}
 use Rattle.terms.proofs.TargetLaws.{gateTargets, axisTargets, kindTargets}
 use Rattle.terms.proofs.KeySteps.{keys-kept, keys-gate, keys-rotated, keys-channeled}
 
@@ -139,9 +138,6 @@ module _ (w : ℕ) where
   module _ (r : ℕ) where
     abbrev NoLetter : Key → Type 0
     NoLetter k = letter w k r ≡ false
-
-    pub clear-near : {ts us : List Term} → Near ts us → Clear w r ts → Clear w r us
-    clear-near = each-all (λ t. NoLetter (t .key)) (λ t. NoLetter (t .key)) (λ t u p e. subst NoLetter (p .key) e)
 
     pub clear-kept : (e : Float) (ts : List Term) → Clear w r ts → Clear w r (keptOf e ts)
     clear-kept = keys-kept NoLetter

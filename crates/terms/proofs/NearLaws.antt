@@ -10,7 +10,7 @@ use Rattle.numbers.specs.Close.{_≈_, same}
 use Rattle.numbers.proofs.CloseLaws.{≈-sym, ≈-trans, neg-≈, add-≈, mul-≈, lt-≈, finite-≈, abs-≈, is-zero-≈}
 use Rattle.words.specs.Keys.{Key, noX}
 use Rattle.terms.specs.declared.Complex64.{Complex64}
-use Rattle.terms.specs.Lists.{Each, none, more, All, foldl}
+use Rattle.terms.specs.Lists.{Each, none, more, foldl}
 use Rattle.terms.specs.Coefficient.{scaledOf, flippedOf, plusOf, turnedOf, sizeOf}
 use Rattle.terms.specs.Term.{Term, term, allFinite}
 use Rattle.terms.specs.Truncation.{isSmall, keptOf, addDropped, droppedOf}
@@ -52,10 +52,6 @@ module _ {A D : Type 0} {R : A → D → Type 0} where
   unfolding foldl
   each-fold S f g h q none = q
   each-fold S f g h {b} {c} q (more {a} {d} p ps) = each-fold S f g h (h b c a d q p) ps
-
-  pub each-all : (P : A → Type 0) (Q : D → Type 0) → ((a : A) (d : D) → R a d → P a → Q d) → {l : List A} {m : List D} → Each R l m → All P l → All Q m
-  each-all P Q h none q = tt
-  each-all P Q h (more {a} {d} p ps) q = (h a d p (q .0), each-all P Q h ps (q .1))
 
 module _ {A D : Type 0} (R : A → D → Type 0) where
   pub each-getD : {l : List A} {m : List D} (i : ℕ) {a : A} {d : D} → Each R l m → R a d → R (getD l i a) (getD m i d)

@@ -1,7 +1,7 @@
 -- Worked values, on one or two qubits: a key is one x-word and one z-word.
 use mathlib.Core.Path.{_≡_, refl}
 use mathlib.Core.List.{List, [], _∷_}
-use lib.Ieee.{Float, binary64, neg, add, sub, mul, div, lt, eq, ofBits}
+use lib.Ieee.{Float, neg, add, sub, mul, lt, eq, ofBits}
 use Rattle.numbers.specs.Constants.{zero64, one64, minusOne64, two64, three64, sineT, cosineT}
 use Rattle.numbers.specs.Root.{sqrtOf}
 use Rattle.words.specs.Keys.{Key, bitOf, flipOf, bitAt, flipAt, sameKey}

@@ -1,13 +1,13 @@
 -- Laws of the parts of a text, of a cursor that goes from part to part, and of comparisons of texts.
-use Prim.Native.Nat.{ℕ, zero, suc, _+_, _-_, _<_, _≤_}
+use Prim.Native.Nat.{ℕ, suc, _+_, _-_, _<_, _≤_}
 use mathlib.Core.Path.{_≡_, refl, sym, ap, _∙_}
 use mathlib.Core.List.{List, [], _∷_}
 use mathlib.Core.Bool.{Bool, true, false, cond, _&&_, and-false, false≢true}
-use native.Mathlib.Numerals.{add-one, sub-one}
+use native.Mathlib.Numerals.{add-one}
 use native.Mathlib.Nat.{add-assoc, le-of-suc-le-suc}
 use native.Mathlib.Omega.{arith}
 use borrow.Author.Tests.{eq-eqb, ne-eqb, eqb-true, ltb-true, ltb-false}
-use lib.ListN.{length, getD, take, drop, length-drop, drop-of-length-le, List·getD-eq-default}
+use lib.ListN.{length, getD, take, drop, length-drop, drop-of-length-le}
 use lib.Seq.{drop-cons, drop-drop, take-all}
 use lib.Dec.{eqb, ltb}
 use Rattle.text.specs.Bytes.{parts, onFirst, index, before, after, begins, same}
@@ -90,20 +90,6 @@ parts-some c (b ∷ bs) = go (parts-some c bs) (eqb b c)
     go k true = omega arith
     go k false = first (parts c bs) k
 
--- there are no more parts than one for each byte, and one
-pub parts-few : (c : ℕ) (s : List ℕ) → length (parts c s) ≤ suc (length s)
-unfolding parts onFirst
-parts-few c [] = omega arith
-parts-few c (b ∷ bs) = go (parts-few c bs) (eqb b c)
-  where
-    first : (ps : List (List ℕ)) → length (onFirst b ps) ≡ length ps
-    first [] = refl
-    first (p ∷ ps) = refl
-
-    go : length (parts c bs) ≤ suc (length bs) → (t : Bool) → length (cond t ([] ∷ parts c bs) (onFirst b (parts c bs))) ≤ suc (suc (length bs))
-    go h true = omega arith
-    go h false = rw (first (parts c bs)) (omega arith)
-
 -- ---- a cursor at a place of a text, r the text from there, n where the next c stands in r
 
 module _ (c : ℕ) (s : List ℕ) (at : ℕ) (r : List ℕ) (t : r ≡ drop at s) (n : ℕ) (e : n ≡ index c r) where
@@ -124,26 +110,6 @@ here c s at r t n e p u = go (ltb n (length r)) refl
     go : (b : Bool) → ltb n (length r) ≡ b → p ≡ getD (parts c (drop at s)) 0 []
     go true q = rw (cursor-step c s at r t n e (ltb-true _ _ q)) u
     go false q = rw (cursor-last c s at r t n e (ltb-false _ _ q)) (u ∙ take-all n r (ltb-false _ _ q))
-
--- the part that is left parts after the cursor, told as P
-module _ (P : List ℕ) (c : ℕ) (s : List ℕ) (at left : ℕ) (inv : getD (parts c (drop at s)) left [] ≡ P) (r : List ℕ) (t : r ≡ drop at s) (n : ℕ) (e : n ≡ index c r) where
-  pub nth-here : left ≡ 0 → (p : List ℕ) → p ≡ take n r → p ≡ P
-  nth-here z p u = here c s at r t n e p u ∙ rw z at inv
-
-  pub nth-none : (left ≡ 0 → ⊥) → length r ≤ n → [] ≡ P
-  nth-none z h =
-      let k : length (parts c (drop at s)) ≤ left = rw (cursor-last c s at r t n e h) (some left z) in
-      sym (List·getD-eq-default (parts c (drop at s)) [] k) ∙ inv
-    where
-      some : (k : ℕ) → (k ≡ 0 → ⊥) → 1 ≤ k
-      some k y = omega arith
-
-  pub nth-next : (left ≡ 0 → ⊥) → n < length r → getD (parts c (drop (at + n + 1) s)) (left - 1) [] ≡ P
-  nth-next z h = step left z (rw (cursor-step c s at r t n e h) at inv)
-    where
-      step : (k : ℕ) → (k ≡ 0 → ⊥) → getD (take n r ∷ parts c (drop (at + n + 1) s)) k [] ≡ P → getD (parts c (drop (at + n + 1) s)) (k - 1) [] ≡ P
-      step zero y i = absurd (y refl)
-      step (suc k) y i = rw (sub-one (suc k)) i
 
 -- ---- comparisons
 

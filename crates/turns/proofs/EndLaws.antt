@@ -1,4 +1,4 @@
--- What the end of a run has to know of its definition. Assumes nothing.
+-- What the proofs of the end of a run use of its definition. Assumes nothing.
 use mathlib.Core.Path.{_≡_, refl, sym, ap, _∙_, subst, subst⁻¹}
 use mathlib.Core.Bool.{Bool, true, false, cond, _&&_}
 use mathlib.Core.List.{List, []}

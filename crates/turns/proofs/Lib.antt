@@ -8,3 +8,4 @@ pub mod MarkLaws
 pub mod ActLaws
 pub mod Alike
 pub mod Cone
+pub mod PartedRuns

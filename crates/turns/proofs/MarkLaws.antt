@@ -282,10 +282,3 @@ pub letters-marks : (w : ℕ) (k : Key) (qs : List ℕ) (ops : List Op) → ((q 
 unfolding lettersIn
 letters-marks w k qs ops e h =
     cone-marks (tab 256 (letterIn w k)) qs ops (length-tab 256 (letterIn w k)) (λ q below. e q below ∙ sym (getD-tab 256 (letterIn w k) q false below)) h
-
--- marks where there is room for them
-pub overlay-long : (ms l : List Bool) → length ms ≤ length l → overlay ms l ≡ ms ++ drop (length ms) l
-unfolding overlay
-overlay-long [] l h = refl
-overlay-long (m ∷ ms) [] h = absurd (not-suc-le-zero h)
-overlay-long (m ∷ ms) (x ∷ l) h = ap (λ (r : List Bool). m ∷ r) (overlay-long ms l (le-of-suc-le-suc h))

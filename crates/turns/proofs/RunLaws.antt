@@ -1,12 +1,12 @@
--- What the loop over the ops, from the last index down, has to know of `runs`, and how one part of a run follows another. Assumes nothing.
+-- What the proof of the loop over the ops, from the last index down, uses of `runs`, and how one part of a run follows another. Assumes nothing.
 use mathlib.Core.Path.{_≡_, refl, sym, ap, ap₂, _∙_, subst, subst⁻¹}
 use mathlib.Core.Bool.{Bool, true, false, cond, _&&_, false≢true}
 use mathlib.Core.List.{List, [], _∷_}
-use Prim.Native.Nat.{ℕ, zero, suc, _+_, _-_, _*_, _/_, _≤_, _<_, min}
+use Prim.Native.Nat.{ℕ, zero, suc, _-_, _*_, _/_, _≤_, _<_, min}
 use native.Mathlib.Nat.{le-refl}
 use native.Mathlib.Omega.{arith}
 use lib.Dec.{leb}
-use lib.ListN.{length, getD, take, drop}
+use lib.ListN.{length, getD, drop}
 use borrow.Author.Tests.{le-leb, leb-true}
 use lib.Seq.{drop-cons}
 use lib.Ieee.{Float}
@@ -23,7 +23,6 @@ use Rattle.rows.proofs.ClearLaws.{stepped-cleared}
 use Rattle.rows.proofs.StepLaws.{rows-room, held-room, held-rows, twice-yes, twice-no}
 use Rattle.turns.specs.declared.Limits.{Limits}
 use Rattle.turns.specs.declared.Op.{Op}
-use Rattle.turns.specs.declared.Tally.{Tally}
 use Rattle.turns.specs.declared.Turned.{Turned}
 use Rattle.turns.specs.declared.Turned.the-variants.{Going, Refused}
 use Rattle.turns.specs.declared.Ending.{Ending}
@@ -32,7 +31,7 @@ use Rattle.turns.specs.declared.Start.{Start}
 use Rattle.turns.specs.Given.{startState, isGiven, isHeld, startedRun}
 use Rattle.turns.specs.Turn.{Stage, refused, going, bind, ask, State, state, Outcome, finish}
 use Rattle.turns.specs.Runs.{step, runs, markedRun}
-use Rattle.turns.specs.Told.{tally, turnedOf, termsOf, stateIn, stageIn, countOf, endingOf, leftBy, endCount, Ready, Tells, Ends, Ran}
+use Rattle.turns.specs.Told.{turnedOf, termsOf, stageIn, countOf, endingOf, leftBy, endCount, Ready, Tells, Ends, Ran}
 use Rattle.turns.proofs.TurnLaws.{long}
 
 -- ---- stages

@@ -1,32 +1,29 @@
--- What the functions of one turn have to know of its definition. Assumes nothing.
+-- What the proofs of one turn use of its definition. Assumes nothing.
 use mathlib.Core.Path.{_≡_, refl, sym, ap, _∙_, subst, subst⁻¹}
 use mathlib.Core.Bool.{Bool, true, false, cond, _&&_}
-use mathlib.Core.Logic.{_⊎_, inl, inr}
 use mathlib.Core.List.{List, []}
-use Prim.Native.Nat.{ℕ, _+_, _*_, _≤_, _<_, max, zero-le}
-use native.Mathlib.Nat.{le-trans, le-refl, not-suc-le-zero}
+use Prim.Native.Nat.{ℕ, _*_, _≤_, _<_, max, zero-le}
 use native.Mathlib.Omega.{arith}
 use lib.Dec.{leb, ltb}
 use lib.ListN.{length}
-use lib.Ieee.{Float, binary64, add, lt}
+use lib.Ieee.{Float, binary64, add}
 use borrow.Author.Tests.{le-leb, lt-leb, leb-true}
 use Rattle.numbers.specs.Constants.{zero64}
 use Rattle.numbers.specs.Tests.{isFinite}
 use Rattle.words.specs.Keys.{Words}
-use Rattle.terms.specs.Lists.{All, tab}
-use Rattle.terms.specs.Term.{Term, OnWidth, Distinct, allFinite}
+use Rattle.terms.specs.Lists.{tab}
+use Rattle.terms.specs.Term.{Term, OnWidth, Distinct}
 use Rattle.terms.specs.Truncation.{keptOf, droppedOf, crowded}
-use Rattle.terms.proofs.CaseLaws.{bool-cases}
 use Rattle.terms.proofs.AllLaws.{all-imp}
 use Rattle.terms.proofs.CountLaws.{kept-count}
 use Rattle.terms.proofs.DistinctLaws.{kept-all, kept-distinct, distinct-of}
 use Rattle.terms.proofs.ListLaws.{length-tab}
-use Rattle.rows.specs.Rows.{termAt, termsIn, rowsIn, Stepped, Holds}
-use Rattle.rows.proofs.HoldLaws.{hold-start, hold-count, hold-trans, hold-wide, room-less}
+use Rattle.rows.specs.Rows.{termAt, termsIn, rowsIn, Holds}
+use Rattle.rows.proofs.HoldLaws.{hold-start, hold-count, hold-trans, hold-wide}
 use Rattle.rows.proofs.StepLaws.{rows-room, held-rows}
 use Rattle.rows.proofs.ReadLaws.{Keyed, step-holds, step-count}
 use Rattle.sums.specs.declared.Kept.{Kept}
-use Rattle.sums.specs.Steps.{Truncated, finiteRows}
+use Rattle.sums.specs.Steps.{Truncated}
 use Rattle.sums.proofs.MeanLaws.{finite-terms}
 use Rattle.branches.proofs.RotatedLaws.{terms-width}
 use Rattle.turns.specs.declared.Limits.{Limits}

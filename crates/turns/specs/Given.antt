@@ -33,7 +33,7 @@ isGiven w limit keys weights (Lines k) = leb k limit && (leb k (length keys / (2
 isGiven w limit keys weights (Alone i) = leb 1 limit && ltb i (length keys / (2 * w))
 isGiven w limit keys weights (Z q t) = leb 1 limit && (leb w 4 && ltb q (64 * w))
 
--- 7. "Are there at least 2 × limit rows?"
+-- what it starts from is given, and 7. "Are there at least 2 × limit rows ..?": then the run begins
 abbrev pub isHeld : ℕ → Limits → List ℕ → List Float → Start → ℕ → Bool
 isHeld w l keys weights start rows = isGiven w (l .limit) keys weights start && leb (2 * l .limit) rows
 

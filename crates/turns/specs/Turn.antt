@@ -36,7 +36,7 @@ pub record State : Type 0 where
 abbrev pub state : List Term → ℕ → Float → State
 state ts p d = record { terms = ts; peak = p; discarded = d }
 
--- question 8: "Is every coefficient, sum and mean finite?" The sum is the discarded weight.
+-- question 8: "Is every coefficient .., sum .. finite?" The sum is the discarded weight. The mean is asked at the end of a run (`ended`).
 abbrev pub fine : State → Bool
 fine s = allFinite (s .terms) && isFinite (s .discarded)
 

@@ -1,7 +1,7 @@
 -- A test of every gate and of all bits at its targets, which antt computes, holds of each gate and all bits. Assumes nothing.
 use mathlib.Core.Path.{_≡_, refl, ap₂, _∙_}
-use mathlib.Core.Bool.{Bool, true, false, _&&_, _||_, Bool·beq}
-use lib.Dec.{T, eqb, eqb→eq}
+use mathlib.Core.Bool.{Bool, true, false, _&&_, Bool·beq}
+use lib.Dec.{T}
 use Rattle.words.specs.declared.Bits as B
 use Rattle.words.specs.declared.Gate.{Gate}
 use Rattle.words.specs.declared.Gate.the-variants.{Id, X, Y, Z, H, S, Sdg, Sx, Sxdg, Cx, Cz, Swap}

@@ -1,6 +1,6 @@
 -- What a gate does to a key: it keeps the length and the bound of the words, changes no bit outside its targets, gives the bits at its
 -- targets as `conjBits` has them, does nothing where it meets identities only, and with one target never looks at the second. Assumes nothing.
-use Prim.Native.Nat.{ℕ, _+_, _*_, _/_, _<_}
+use Prim.Native.Nat.{ℕ, _*_, _/_, _<_}
 use mathlib.Core.Path.{_≡_, refl, sym, ap, ap₂, _∙_, subst}
 use mathlib.Core.Bool.{Bool, true, false, not, _&&_, _||_}
 use mathlib.Core.Logic.{_≢_}

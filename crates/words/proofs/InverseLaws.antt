@@ -1,7 +1,7 @@
 -- The inverse gate undoes a gate: every word is restored, and the two factors cancel. So a gate keeps distinct keys distinct. Assumes nothing.
 use Prim.Native.Nat.{ℕ, zero, suc, _+_, _*_, _%_, _<_}
 use mathlib.Core.Path.{_≡_, refl, sym, ap, _∙_}
-use mathlib.Core.Bool.{Bool, true, false, true≢false}
+use mathlib.Core.Bool.{Bool, true, false}
 use mathlib.Core.Logic.{_≢_}
 use native.Mathlib.Omega.{arith}
 use native.Mathlib.Decide.{ℕ-discrete}
@@ -12,7 +12,7 @@ use Rattle.words.specs.declared.Gate.{Gate}
 use Rattle.words.specs.Keys.{Key, bitAt, zAt, Words}
 use Rattle.words.specs.Gates.{hasTwoTargets, conjBits, conjPhase, bitsAt, conjKey, inverse, Targets}
 use Rattle.words.proofs.KeyLaws.{key-ext}
-use Rattle.words.proofs.EveryGate.{everyGate, at-gate, at-each, same, same→eq}
+use Rattle.words.proofs.EveryGate.{at-gate, at-each, same, same→eq}
 use Rattle.words.proofs.GateLaws.{conjKey-length, conjKey-words, conjKey-other, conjKey-bits, one-target-key}
 
 inverse-bits : (g : Gate) (s : B.Bits) → conjBits (inverse g) (conjBits g s) ≡ s

@@ -1,7 +1,7 @@
 -- The laws of a key's bits, over any number of words: a flip changes its own bit and no other, twice it is the identity, it keeps the
 -- length, and words of 64 bits stay so. Two keys with the same bits are equal. Assumes nothing.
 use Prim.Native.Nat.{ℕ, _+_, _*_, _/_, _%_, _^_, _≤_, _<_}
-use mathlib.Core.Path.{_≡_, refl, sym, ap, ap₂, _∙_, subst, subst⁻¹}
+use mathlib.Core.Path.{_≡_, refl, sym, ap, ap₂, _∙_, subst⁻¹}
 use mathlib.Core.Bool.{Bool, true, false, not, cond, _&&_, false≢true}
 use mathlib.Core.Logic.{_≢_}
 use mathlib.Core.List.{[], _∷_}

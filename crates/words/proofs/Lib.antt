@@ -7,5 +7,4 @@ pub mod GateLaws
 pub mod InverseLaws
 pub mod ProductLaws
 pub mod RowSteps
-pub mod RowLaws
 mod Place

@@ -4,11 +4,11 @@ use mathlib.Core.Path.{_≡_, sym, ap, ap₂, _∙_, subst⁻¹}
 use mathlib.Core.Bool.{false}
 use mathlib.Core.List.{List}
 use native.Mathlib.Omega.{arith}
-use lib.ListN.{length, getD, set, List·getD-eq-default}
+use lib.ListN.{length, getD, set}
 use lib.Dec.{eqb}
 use lib.Bits.{bitXor}
 use lib.Pow.{shl-exact}
-use native.Mathlib.Nat.{one-mul, zero-div}
+use native.Mathlib.Nat.{one-mul}
 use Rattle.words.specs.Keys.{bitOf, flipOf, bitAt, flipAt}
 use Rattle.words.proofs.WordLaws.{xor-flip}
 use Rattle.words.proofs.KeyLaws.{flipAt-out, bitAt-past}

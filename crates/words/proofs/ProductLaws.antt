@@ -1,6 +1,6 @@
 -- A gate carries a product of two words to the product of the two carried, phases in quarter turns: at the bits of the targets. One test
 -- over twelve gates and 256 pairs. Assumes nothing.
-use Prim.Native.Nat.{ℕ, _+_, _*_, _%_}
+use Prim.Native.Nat.{ℕ, _+_, _%_}
 use mathlib.Core.Path.{_≡_}
 use mathlib.Core.Bool.{Bool, cond, _&&_}
 use lib.Dec.{T, eqb, eqb→eq}

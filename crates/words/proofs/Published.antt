@@ -1,5 +1,5 @@
 -- The gates' rule on words X^x Z^z agrees with Aaronson and Gottesman's on signed letters, for all twelve gates and all bits. Assumes nothing.
-use Prim.Native.Nat.{ℕ, _+_, _*_, _%_}
+use Prim.Native.Nat.{_+_, _*_, _%_}
 use mathlib.Core.Bool.{Bool, false, _&&_}
 use lib.Dec.{T, eqb, eqb→eq}
 use Rattle.words.specs.declared.Bits as B

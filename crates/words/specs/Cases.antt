@@ -4,7 +4,7 @@ use mathlib.Core.Bool.{true, false}
 use mathlib.Core.List.{[], _∷_}
 use Rattle.words.specs.declared.Gate.the-variants.{H, S, Sdg, Cx, Sx}
 use Rattle.words.specs.Keys.{bitOf, flipOf, bitAt, flipAt, setAt, zAt, widthOf}
-use Rattle.words.specs.Gates.{mk, conjBits, conjPhase, bitsAt, conjKey}
+use Rattle.words.specs.Gates.{mk, conjPhase, conjKey}
 use Rattle.words.specs.Tableau.{published, hadamard, phase, cnot}
 
 -- forward, as published: Hadamard takes Y to -Y, the phase gate takes Y to -X

@@ -1,7 +1,7 @@
 -- A buffer of keys, 2 * W words to a row, and a gate on one of its rows.
-use Prim.Native.Nat.{ℕ, zero, suc, _+_, _*_, _/_}
-use mathlib.Core.Bool.{Bool, true, false, cond}
-use mathlib.Core.List.{List, [], _∷_, _++_}
+use Prim.Native.Nat.{ℕ, _+_, _*_, _/_}
+use mathlib.Core.Bool.{cond}
+use mathlib.Core.List.{List, _++_}
 use lib.ListN.{length, take, drop}
 use lib.Dec.{ltb}
 use Rattle.words.specs.declared.Gate.{Gate}

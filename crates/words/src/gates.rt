@@ -120,12 +120,11 @@ pub fn clifford_conjugation_phase(key: &[u64], w: usize, gate: Gate, a: usize, b
     gate_phase(gate, read_bits(key, w, a, b))
 }
 
-// The two at once, from one reading of the bits.
+// The two at once: the factor is taken from the key as it was.
 pub fn conjugate_key(key: &mut [u64], w: usize, gate: Gate, a: usize, b: usize) -> u8
     ensures { λ r. ⌜ (now (key .exit) ≡ conjKey gate w a b (now (key .entry))) × (r ≡ conjPhase gate (bitsAt w a b (now (key .entry)))) ⌝ }
 {
-    let s = read_bits(key, w, a, b);
-    let t = gate_bits(gate, s);
-    move_bits(key, w, a, b, s, t);
-    gate_phase(gate, s)
+    let quarters = clifford_conjugation_phase(key, w, gate, a, b);
+    propagate_backward_words(key, w, gate, a, b);
+    quarters
 }

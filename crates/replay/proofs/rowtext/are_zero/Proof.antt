@@ -1,6 +1,5 @@
 -- `are_zero` is safe and ends.
 use Prim.Native.Nat.{_-_, _≤_}
-use native.Mathlib.Omega.{arith}
 use lib.ListN.{length}
 use borrow.Author.Needs.{needs}
 use Rattle.replay.proofs.rowtext.are_zero.Statement.{statement}

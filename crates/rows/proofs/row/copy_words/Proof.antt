@@ -1,9 +1,8 @@
-use mathlib.Core.Path.{_≡_, refl, sym, ap, _∙_}
-use Prim.Native.Nat.{ℕ, _+_, _-_, _*_, _≤_, _<_}
+use mathlib.Core.Path.{_≡_, refl, ap, _∙_}
+use Prim.Native.Nat.{_-_, _≤_}
 use native.Mathlib.Omega.{arith}
-use lib.ListN.{length, drop, length-set}
-use lib.Seq.{paste, paste-zero}
-use Rattle.rows.proofs.RowLaws.{copied-zero, copied, copied-suc, copied-all, row-before}
+use lib.ListN.{length, length-set}
+use Rattle.rows.proofs.RowLaws.{copied-zero, copied, copied-suc, copied-all}
 use borrow.Author.Needs.{needs}
 use Rattle.rows.proofs.row.copy_words.Statement.{statement}
 use Rattle.rows.proofs.row.copy_words.Tie as tie

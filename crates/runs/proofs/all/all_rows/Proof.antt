@@ -5,13 +5,13 @@ use native.Mathlib.Omega.{arith}
 use lib.ListN.{take}
 use denote.Ref.{now}
 use borrow.Author.Needs.{needs}
-use Rattle.runs.specs.Means.{allTo, Passes}
+use Rattle.runs.specs.Means.{allTo, AllTold}
 use Rattle.runs.proofs.AllRunLaws.{all-start, all-turn, all-ready}
 use Rattle.runs.proofs.all.all_rows.Statement.{statement}
 use Rattle.runs.proofs.all.all_rows.Tie as tie
 
 abbrev Inv-loop : tie.InvT-loop
-Inv-loop ops n marks limits words₀ coeffs₀ w means₀ qubits at₀ q₀ words coeffs means at q = (q ≤ qubits) × Passes w q at words₀ words coeffs₀ coeffs means₀ means (allTo w limits marks (take n ops) q)
+Inv-loop ops n marks limits words₀ coeffs₀ w means₀ qubits at₀ q₀ words coeffs means at q = (q ≤ qubits) × AllTold w q at words₀ words coeffs₀ coeffs means₀ means (allTo w limits marks (take n ops) q)
 
 abbrev μ-loop : tie.MeasureT-loop
 μ-loop ops n marks limits words₀ coeffs₀ w means₀ qubits at₀ q₀ words coeffs means at q = qubits - q

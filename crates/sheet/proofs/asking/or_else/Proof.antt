@@ -1,6 +1,5 @@
 -- `or_else` meets its contract. Assumes nothing.
 use borrow.Author.Tests.{eq-eqb, ne-eqb}
-use borrow.Author.Needs.{needs}
 use Rattle.sheet.proofs.asking.or_else.Statement.{statement}
 use Rattle.sheet.proofs.asking.or_else.Tie as tie
 
