@@ -1,12 +1,12 @@
 -- The reals on a line are binary64, whatever its bytes: each is read from 64 bits, or is zero. Assumes nothing.
 use Prim.Native.Nat.{ℕ}
-use mathlib.Core.Bool.{Bool, true, false, cond}
 use mathlib.Core.List.{List}
 use lib.Dec.{eqb}
 use lib.ListN.{length, drop}
 use lib.Ieee.{binary64}
 use lib.Ieee.Bits.{ofBits-fits}
 use Rattle.numbers.specs.Constants.{zero64}
+use Rattle.terms.proofs.CaseLaws.{cond-holds}
 use Rattle.text.specs.declared.Read.{Read}
 use Rattle.text.specs.declared.Read.the-variants.{Number, Bad}
 use Rattle.text.specs.declared.Real.{Real}
@@ -47,11 +47,7 @@ or-zero-is (Value x) h = h
 or-zero-is NotReal h = zero-is
 
 pub field-is : (k l : List ℕ) → IsBinary64 (orZeroReal (realField k l))
-field-is k l = go (begins k l)
-  where
-    go : (b : Bool) → IsBinary64 (orZeroReal (cond b (real (drop (length k) l)) NotReal))
-    go true = or-zero-is (real (drop (length k) l)) (real-is (drop (length k) l))
-    go false = zero-is
+field-is k l = cond-holds (λ r. IsBinary64 (orZeroReal r)) (begins k l) (or-zero-is (real (drop (length k) l)) (real-is (drop (length k) l))) zero-is
 
 -- ---- the reals of an op that was read
 abbrev RealsAre : Reals → Type 0
@@ -64,18 +60,14 @@ triple-are (Value x) NotReal z h k m = tt
 triple-are (Value x) (Value y) NotReal h k m = tt
 triple-are (Value x) (Value y) (Value z) h k m = (h, (k, m))
 
-one-of : {A : Type 0} (Q : A → Type 0) (b : Bool) {x y : A} → Q x → Q y → Q (cond b x y)
-one-of Q true h k = h
-one-of Q false h k = k
-
 reals-are : (n : ℕ) (r : List ℕ) → RealsAre (realsIn n r)
 unfolding realsIn
 reals-are n r =
     let a = before comma r in
     let b = after comma r in
-    one-of RealsAre (eqb n 0) (zero-is, (zero-is, zero-is))
-    (one-of RealsAre (eqb n 1) (triple-are (real r) (Value zero64) (Value zero64) (real-is r) zero-is zero-is)
-    (one-of RealsAre (eqb n 2) (triple-are (real a) (real b) (Value zero64) (real-is a) (real-is b) zero-is)
+    cond-holds RealsAre (eqb n 0) (zero-is, (zero-is, zero-is))
+    (cond-holds RealsAre (eqb n 1) (triple-are (real r) (Value zero64) (Value zero64) (real-is r) zero-is zero-is)
+    (cond-holds RealsAre (eqb n 2) (triple-are (real a) (real b) (Value zero64) (real-is a) (real-is b) zero-is)
     (triple-are (real a) (real (before comma b)) (real (after comma b)) (real-is a) (real-is (before comma b)) (real-is (after comma b)))))
 
 abbrev OpIs : OpRead → Type 0
@@ -103,12 +95,12 @@ op-with-is NoName (Pair a b) (Triple x y z) h = tt
 op-after-is : (n : Name) (v : List ℕ) → OpIs (opAfter n v)
 unfolding opAfter
 op-after-is n v =
-    one-of OpIs (eqb (realCount n) 0) (op-with-is n (targetsIn (hasTwo n) v) (Triple zero64 zero64 zero64) (zero-is, (zero-is, zero-is)))
+    cond-holds OpIs (eqb (realCount n) 0) (op-with-is n (targetsIn (hasTwo n) v) (Triple zero64 zero64 zero64) (zero-is, (zero-is, zero-is)))
     (op-with-is n (targetsIn (hasTwo n) (before colon v)) (realsIn (realCount n) (after colon v)) (reals-are (realCount n) (after colon v)))
 
 op-is : (v : List ℕ) → OpIs (op v)
 unfolding op
-op-is v = one-of OpIs (same (bytes "barrier:") v) tt (op-after-is (nameOf (before colon v)) (after colon v))
+op-is v = cond-holds OpIs (same (bytes "barrier:") v) tt (op-after-is (nameOf (before colon v)) (after colon v))
 
 or-none-is : (r : OpRead) → OpIs r → RealsAreBinary64 (orNone r)
 or-none-is (IsOp o) h = h

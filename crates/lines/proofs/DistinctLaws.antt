@@ -62,13 +62,14 @@ fresh-is seen (q ∷ qs) l = go (ltb q 256) refl (fresh-is (set seen q true) qs 
         ∙ bits (not (getD seen q false)) (allBelow 256 qs) (distinct qs) (not (member q qs)) (unseen seen qs)
     go false e ih = refl
 
+-- each place of a list of one value has it, as is the default past the end
+pub cleared : {A : Type 0} (n : ℕ) (z : A) (j : ℕ) → getD (replicate n z) j z ≡ z
+cleared n z j = ⊎-elim (getD-replicate n j z z) (λ h. List·getD-eq-default (replicate n z) z (rw (length-replicate n z) h)) (lt-or-le j n)
+
 unseen-start : (n : ℕ) (qs : List ℕ) → unseen (replicate n false) qs ≡ true
 unfolding every
 unseen-start n [] = refl
-unseen-start n (q ∷ qs) = ap₂ _&&_ (ap not clear) (unseen-start n qs)
-  where
-    clear : getD (replicate n false) q false ≡ false
-    clear = ⊎-elim (getD-replicate n q false false) (λ h. List·getD-eq-default (replicate n false) false (rw (length-replicate n false) h)) (lt-or-le q n)
+unseen-start n (q ∷ qs) = ap₂ _&&_ (ap not (cleared n false q)) (unseen-start n qs)
 
 pub fresh-start : (qs : List ℕ) → fresh (replicate 256 false) qs ≡ (allBelow 256 qs && distinct qs)
 fresh-start qs =

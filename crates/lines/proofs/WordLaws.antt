@@ -2,61 +2,50 @@
 use Prim.Native.Nat.{ℕ, zero, suc, _+_, _*_, _/_, _%_, _^_, _<_, _≤_}
 use mathlib.Core.Path.{_≡_, refl, sym, ap, ap₂, _∙_}
 use mathlib.Core.Logic.{_≢_, ⊎-elim}
-use mathlib.Core.Bool.{Bool, true, false, cond, _&&_, _||_, false≢true}
+use mathlib.Core.Bool.{Bool, true, false, _&&_, _||_, false≢true}
 use mathlib.Core.List.{List, [], _∷_}
 use native.Mathlib.Nat.{zero-div, zero-add}
 use native.Mathlib.Omega.{arith}
 use borrow.Author.Tests.{lt-ltb, ltb-true}
 use lib.Dec.{ltb, eqb}
-use lib.ListN.{length, getD, replicate, length-replicate, getD-replicate, List·getD-eq-default}
+use lib.ListN.{length, getD, replicate, length-replicate}
 use Rattle.words.specs.Keys.{Key, Words, bitOf, bitAt, flipAt, setAt, zAt, hasLetter, noLetters}
-use Rattle.words.proofs.KeyLaws.{setAt-length, setAt-words}
+use Rattle.words.proofs.KeyLaws.{setAt-keeps, setAt-length, setAt-words}
 use Rattle.words.proofs.LetterLaws.{letter, letter-flip-x, letter-flip-z}
 use Rattle.terms.specs.Lists.{foldl}
-use Rattle.terms.proofs.CaseLaws.{lt-or-le, and-true}
+use Rattle.terms.proofs.CaseLaws.{lt-or-le, and-true, cond-cases}
 use Rattle.runs.specs.Task.{every, lettersBelow, qubitsOf}
+use Rattle.lines.proofs.DistinctLaws.{cleared}
 use Rattle.lines.specs.TermLines.{Factor, setsX, setsZ, factorOf, setIf, placed, wordOf, qubitsIn, allBelow}
 
 -- ---- the length, and words of 64 bits
 
-pub length-placed : (w : ℕ) (k : Key) (f : Factor) → length (placed w k f) ≡ length k
+-- what a set bit keeps, the factors keep
+placed-keeps : (P : Key → Type 0) → ((k : Key) (i : ℕ) → P k → P (setAt k i)) → (w : ℕ) (k : Key) (f : Factor) → P k → P (placed w k f)
 unfolding placed
-length-placed w k f = one (f .z) (zAt w (f .qubit)) (setIf (f .x) (f .qubit) k) ∙ one (f .x) (f .qubit) k
+placed-keeps P step w k f h = one (f .z) (zAt w (f .qubit)) (setIf (f .x) (f .qubit) k) (one (f .x) (f .qubit) k h)
   where
-    one : (b : Bool) (i : ℕ) (k : Key) → length (setIf b i k) ≡ length k
-    one true i k = setAt-length k i
-    one false i k = refl
-
-pub words-placed : (w : ℕ) (k : Key) (f : Factor) → Words k → Words (placed w k f)
-unfolding placed
-words-placed w k f h = one (f .z) (zAt w (f .qubit)) (setIf (f .x) (f .qubit) k) (one (f .x) (f .qubit) k h)
-  where
-    one : (b : Bool) (i : ℕ) (k : Key) → Words k → Words (setIf b i k)
-    one true i k h = setAt-words k i h
+    one : (b : Bool) (i : ℕ) (k : Key) → P k → P (setIf b i k)
+    one true i k h = step k i h
     one false i k h = h
 
-pub length-all : (w : ℕ) (k : Key) (fs : List Factor) → length (foldl (placed w) k fs) ≡ length k
+all-keeps : (P : Key → Type 0) → ((k : Key) (i : ℕ) → P k → P (setAt k i)) → (w : ℕ) (k : Key) (fs : List Factor) → P k → P (foldl (placed w) k fs)
 unfolding foldl
-length-all w k [] = refl
-length-all w k (f ∷ fs) = length-all w (placed w k f) fs ∙ length-placed w k f
+all-keeps P step w k [] h = h
+all-keeps P step w k (f ∷ fs) h = all-keeps P step w (placed w k f) fs (placed-keeps P step w k f h)
 
-pub words-all : (w : ℕ) (k : Key) (fs : List Factor) → Words k → Words (foldl (placed w) k fs)
-unfolding foldl
-words-all w k [] h = h
-words-all w k (f ∷ fs) h = words-all w (placed w k f) fs (words-placed w k f h)
+pub length-all : (w : ℕ) (k : Key) (fs : List Factor) → length (foldl (placed w) k fs) ≡ length k
+length-all w k fs = all-keeps (λ l. length l ≡ length k) (λ l i e. setAt-length l i ∙ e) w k fs refl
 
 -- each word of the word without letters is 0
 clear-word : (n j : ℕ) → _≡_ {A = ℕ} (getD (replicate n 0) j 0) 0
-clear-word n j = ⊎-elim (getD-replicate n j z z) (λ h. List·getD-eq-default (replicate n z) z (rw (length-replicate n z) h)) (lt-or-le j n)
-  where
-    z : ℕ
-    z = 0
+clear-word n j = cleared n 0 j
 
 pub length-word : (w : ℕ) (fs : List Factor) → length (wordOf w fs) ≡ 2 * w
 length-word w fs = length-all w (noLetters w) fs ∙ length-replicate (2 * w) 0
 
 pub words-word : (w : ℕ) (fs : List Factor) → Words (wordOf w fs)
-words-word w fs = words-all w (noLetters w) fs (λ j. rw (clear-word (2 * w) j) (omega arith))
+words-word w fs = all-keeps Words setAt-words w (noLetters w) fs (λ j. rw (clear-word (2 * w) j) (omega arith))
 
 -- ---- what the code does for one factor
 
@@ -88,26 +77,16 @@ free-none w n q h = go (ltb q (64 * w))
 free-placed : (w n : ℕ) (k : Key) (f : Factor) → f .qubit < n → n ≤ 64 * w → Free w n k → Free w n (placed w k f)
 unfolding placed
 free-placed w n k f h m ok q l =
-    set-z (f .z) (setIf (f .x) (f .qubit) k) ∙ set-x (f .x) ∙ ok q l
+    kept (zAt w (f .qubit)) (λ k. letter-flip-z w k (f .qubit) q other) (f .z) (setIf (f .x) (f .qubit) k)
+    ∙ kept (f .qubit) (λ k. letter-flip-x w k (f .qubit) q (omega (arith, h, m)) other) (f .x) k
+    ∙ ok q l
   where
     other : f .qubit ≢ q
     other e = omega (arith, e, h, l)
 
-    flip-x : (b : Bool) → letter w (cond b k (flipAt k (f .qubit))) q ≡ letter w k q
-    flip-x true = refl
-    flip-x false = letter-flip-x w k (f .qubit) q (omega (arith, h, m)) other
-
-    flip-z : (b : Bool) (k : Key) → letter w (cond b k (flipAt k (zAt w (f .qubit)))) q ≡ letter w k q
-    flip-z true k = refl
-    flip-z false k = letter-flip-z w k (f .qubit) q other
-
-    set-x : (b : Bool) → letter w (setIf b (f .qubit) k) q ≡ letter w k q
-    set-x true = flip-x (bitAt k (f .qubit))
-    set-x false = refl
-
-    set-z : (b : Bool) (k : Key) → letter w (setIf b (zAt w (f .qubit)) k) q ≡ letter w k q
-    set-z true k = flip-z (bitAt k (zAt w (f .qubit))) k
-    set-z false k = refl
+    kept : (i : ℕ) → ((k : Key) → letter w (flipAt k i) q ≡ letter w k q) → (b : Bool) (k : Key) → letter w (setIf b i k) q ≡ letter w k q
+    kept i flip true k = setAt-keeps k i (λ l. letter w l q ≡ letter w k q) refl (flip k)
+    kept i flip false k = refl
 
 free-all : (w n : ℕ) (k : Key) (fs : List Factor) → allBelow n (qubitsIn fs) ≡ true → n ≤ 64 * w → Free w n k → Free w n (foldl (placed w) k fs)
 unfolding foldl every
@@ -120,12 +99,10 @@ free-all w n k (f ∷ fs) b m ok =
 below-free : (w n a : ℕ) (k : Key) → a ≤ 64 * w → Free w n k → every (λ q. ltb q n) (lettersBelow w a k) ≡ true
 unfolding every lettersBelow
 below-free w n zero k h ok = refl
-below-free w n (suc a) k h ok = go (hasLetter w k a) refl (below-free w n a k (omega (arith, h)) ok)
-  where
-    go : (b : Bool) → hasLetter w k a ≡ b → every (λ q. ltb q n) (lettersBelow w a k) ≡ true
-        → every (λ q. ltb q n) (cond b (a ∷ lettersBelow w a k) (lettersBelow w a k)) ≡ true
-    go true e ih = ap₂ _&&_ (⊎-elim (lt-ltb a n) (λ l. absurd (false≢true (sym (ok a l) ∙ ap₂ _&&_ (lt-ltb a (64 * w) h) e))) (lt-or-le a n)) ih
-    go false e ih = ih
+below-free w n (suc a) k h ok =
+    let ih = below-free w n a k (omega (arith, h)) ok in
+    cond-cases (λ l. every (λ q. ltb q n) l ≡ true) (hasLetter w k a)
+    (λ e. ap₂ _&&_ (⊎-elim (lt-ltb a n) (λ l. absurd (false≢true (sym (ok a l) ∙ ap₂ _&&_ (lt-ltb a (64 * w) h) e))) (lt-or-le a n)) ih) (λ e. ih)
 
 -- a word whose factors are below n has letters below n alone
 pub letters-of-word : (w n : ℕ) (fs : List Factor) → allBelow n (qubitsIn fs) ≡ true → n ≤ 64 * w

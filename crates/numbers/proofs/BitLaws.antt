@@ -64,17 +64,15 @@ module _ (x : Float) (held : T (fits binary64 x)) (finite : isFinite x ≡ true)
       in-range : (b : ℕ) → b % 2 ^ 63 / 2 ^ 52 < 2048
       in-range b = omega arith
 
+  from-digits : (n k : ℕ) → ofFields binary64 (leb (2 ^ 63) b) (b % 2 ^ 63 / 2 ^ 52) (b % 2 ^ 52) ≡ odd 53 (leb (2 ^ 63) b) n k 1074
+      → HasValue x (leb (2 ^ 63) b) (n * 2 ^ k) (2 ^ 1074)
+  from-digits n k e = subst (λ (v : Float). HasValue v (leb (2 ^ 63) b) (n * 2 ^ k) (2 ^ 1074)) (sym (is ∙ e)) (odd-sign 53 (leb (2 ^ 63) b) n k 1074)
+
   pub low-value : b % 2 ^ 63 / 2 ^ 52 ≡ 0 → HasValue x (leb (2 ^ 63) b) (b % 2 ^ 52 * 2 ^ 0) (2 ^ 1074)
-  low-value e =
-      subst (λ (v : Float). HasValue v (leb (2 ^ 63) b) (b % 2 ^ 52 * 2 ^ 0) (2 ^ 1074))
-      (sym (is ∙ ap (λ (y : ℕ). ofFields binary64 (leb (2 ^ 63) b) y (b % 2 ^ 52)) e ∙ at-zero (leb (2 ^ 63) b) (b % 2 ^ 52)))
-      (odd-sign 53 (leb (2 ^ 63) b) (b % 2 ^ 52) 0 1074)
+  low-value e = from-digits (b % 2 ^ 52) 0 (rw e (at-zero (leb (2 ^ 63) b) (b % 2 ^ 52)))
 
   pub normal-value : (k : ℕ) → b % 2 ^ 63 / 2 ^ 52 ≡ suc k → HasValue x (leb (2 ^ 63) b) ((2 ^ 52 + b % 2 ^ 52) * 2 ^ k) (2 ^ 1074)
-  normal-value k e =
-      subst (λ (v : Float). HasValue v (leb (2 ^ 63) b) ((2 ^ 52 + b % 2 ^ 52) * 2 ^ k) (2 ^ 1074))
-      (sym (is ∙ ap (λ (y : ℕ). ofFields binary64 (leb (2 ^ 63) b) y (b % 2 ^ 52)) e ∙ under-ones (leb (2 ^ 63) b) (b % 2 ^ 52) k (subst (λ (y : ℕ). y < 2047) e field-lt)))
-      (odd-sign 53 (leb (2 ^ 63) b) (2 ^ 52 + b % 2 ^ 52) k 1074)
+  normal-value k e = from-digits (2 ^ 52 + b % 2 ^ 52) k (rw e (under-ones (leb (2 ^ 63) b) (b % 2 ^ 52) k (rw e at field-lt)))
 
 -- ---- the bits of q * 2 ^ k smallest values
 
@@ -157,7 +155,6 @@ no-nan-bits n h = number-bits n (le-trans (mod-le n (2 ^ 63)) (le-of-lt h))
 
 -- ---- what is printed
 
--- read back, it is the same number
 pub printed-back : (x : Float) → T (fits binary64 x) → ofBits binary64 (printedBits x) ≈ x
 printed-back x f = go (isZero x) refl
   where

@@ -2,14 +2,13 @@
 use mathlib.Core.Path.{_≡_, refl, sym, ap, ap₂, _∙_, subst}
 use Prim.Native.Nat.{ℕ, zero, suc, _*_}
 use native.Mathlib.Nat.{zero-mul, mul-zero, zero-add, add-zero, sub-zero, mul-one}
-use mathlib.Core.Bool.{Bool, true, false, not, _&&_, _||_, Bool·beq, cond, or-true, false≢true}
+use mathlib.Core.Bool.{Bool, true, false, _&&_, _||_, Bool·beq, cond, or-true, false≢true}
 use mathlib.Core.Logic.{_⊎_, inl, inr}
 use lib.IntN.{ℤ, pos}
 use lib.Dec.{T, ltb, eqb, eqb-refl, eqb→eq, leb·suc-suc, leb·zero, leb·suc-zero, eqb·suc-zero}
-use lib.Ieee.{Float, nan, inf, fin, Format, up, down, round, neg, sum, add, sub, mul, div, lt, le, eq, below, level, unlike, fits, ofBits}
+use lib.Ieee.{Float, nan, inf, fin, Format, up, down, round, neg, sum, add, sub, mul, div, lt, le, eq, level, unlike, fits, ofBits}
 use lib.Ieee.Bits.{is-true}
 use lib.Ieee.Fits.{down-pos}
-use Rattle.numbers.specs.Constants.{zero64}
 use Rattle.numbers.specs.Tests.{isFinite, isZero, absOf, isEpsilon, inSine, inUnit, atLeastZero}
 use Rattle.numbers.specs.Root.{sqrtOf}
 use Rattle.numbers.specs.Shown.{shownOf}
@@ -35,36 +34,48 @@ pub ≈-trans : {x y z : Float} → x ≈ y → y ≈ z → x ≈ z
 ≈-trans (zeros s t) same = zeros s t
 ≈-trans (zeros s t) (zeros t' u) = zeros s u
 
+-- a function that relates what it gives at the two zeros
+module _ {A : Type 0} (R : A → A → Type 0) (self : (a : A) → R a a) (back : (a b : A) → R a b → R b a) (f : Float → A)
+    (e : R (f (fin true 0 (pos 0))) (f (fin false 0 (pos 0)))) where
+  by-zeros : {x y : Float} → x ≈ y → R (f x) (f y)
+  by-zeros same = self _
+  by-zeros (zeros true true) = self _
+  by-zeros (zeros true false) = e
+  by-zeros (zeros false true) = back _ _ e
+  by-zeros (zeros false false) = self _
+
+to-≈ : (f : Float → Float) → f (fin true 0 (pos 0)) ≈ f (fin false 0 (pos 0)) → {x y : Float} → x ≈ y → f x ≈ f y
+to-≈ f e = by-zeros _≈_ (λ a. same) (λ a b. ≈-sym) f e
+
+to-≡ : {A : Type 0} (f : Float → A) → f (fin true 0 (pos 0)) ≡ f (fin false 0 (pos 0)) → {x y : Float} → x ≈ y → f x ≡ f y
+to-≡ f e = by-zeros _≡_ (λ a. refl) (λ a b. sym) f e
+
 pub neg-≈ : {x y : Float} → x ≈ y → neg x ≈ neg y
 unfolding neg
-neg-≈ same = same
-neg-≈ (zeros s t) = zeros (not s) (not t)
+neg-≈ = to-≈ neg (zeros false true)
 
 pub finite-≈ : {x y : Float} → x ≈ y → isFinite x ≡ isFinite y
-finite-≈ same = refl
-finite-≈ (zeros s t) = refl
+finite-≈ = to-≡ isFinite refl
 
 -- ---- the operations: products of either zero are zeros, and what a sum or a comparison gives does not turn on a zero's sign
 
 rounds : (f : Format) (s t : Bool) {a : ℕ} (c : ℕ) → a ≡ 0 → round f s a c ≈ round f t a c
 rounds f s t c e = rw (e, round-zero f s c, round-zero f t c) (zeros s t)
 
-mul-l : (f : Format) (y : Float) {x x' : Float} → x ≈ x' → mul f x y ≈ mul f x' y
+mul-l : (f : Format) (y : Float) → mul f (fin true 0 (pos 0)) y ≈ mul f (fin false 0 (pos 0)) y
 unfolding mul
-mul-l f y same = same
-mul-l f nan (zeros s t) = same
-mul-l f (inf u) (zeros s t) = same
-mul-l f (fin u n d) (zeros s t) = rounds f (unlike s u) (unlike t u) (1 * down d) (zero-mul (n * up d))
+mul-l f nan = same
+mul-l f (inf u) = same
+mul-l f (fin u n d) = rounds f (unlike true u) (unlike false u) (1 * down d) (zero-mul (n * up d))
 
-mul-r : (f : Format) (y : Float) {x x' : Float} → x ≈ x' → mul f y x ≈ mul f y x'
+mul-r : (f : Format) (y : Float) → mul f y (fin true 0 (pos 0)) ≈ mul f y (fin false 0 (pos 0))
 unfolding mul
-mul-r f y same = same
-mul-r f nan (zeros s t) = same
-mul-r f (inf u) (zeros s t) = same
-mul-r f (fin u n d) (zeros s t) = rounds f (unlike u s) (unlike u t) (down d * 1) (mul-zero (n * up d))
+mul-r f nan = same
+mul-r f (inf u) = same
+mul-r f (fin u n d) = rounds f (unlike u true) (unlike u false) (down d * 1) (mul-zero (n * up d))
 
 pub mul-≈ : (f : Format) {x y u v : Float} → x ≈ y → u ≈ v → mul f x u ≈ mul f y v
-mul-≈ f {y} {u} p q = ≈-trans (mul-l f u p) (mul-r f y q)
+mul-≈ f {y} {u} p q = ≈-trans (to-≈ (λ x. mul f x u) (mul-l f u) p) (to-≈ (mul f y) (mul-r f y) q)
 
 pos-lt : (b : ℕ) → ltb 0 (suc b) ≡ true
 pos-lt b = leb·suc-suc 0 b ∙ leb·zero b
@@ -97,28 +108,26 @@ sum-zero f s t b c e = rw e (go s t b)
     go true false zero = same
     go true false (suc b) = rw (lt-zero, sub-zero) same
 
-add-l : (f : Format) (y : Float) {x x' : Float} → x ≈ x' → add f x y ≈ add f x' y
+add-l : (f : Format) (y : Float) → add f (fin true 0 (pos 0)) y ≈ add f (fin false 0 (pos 0)) y
 unfolding add
-add-l f y same = same
-add-l f nan (zeros s t) = same
-add-l f (inf u) (zeros s t) = same
-add-l f (fin u n d) (zeros s t) = ≈-trans (one s) (≈-sym (one t))
+add-l f nan = same
+add-l f (inf u) = same
+add-l f (fin u n d) = ≈-trans (one true) (≈-sym (one false))
   where
     one : (s : Bool) → sum f s (0 * down d) u (n * up d * 1) (1 * down d) ≈ round f u (n * up d * 1) (1 * down d)
     one s = zero-sum f s u (n * up d * 1) (1 * down d) (zero-mul (down d))
 
-add-r : (f : Format) (y : Float) {x x' : Float} → x ≈ x' → add f y x ≈ add f y x'
+add-r : (f : Format) (y : Float) → add f y (fin true 0 (pos 0)) ≈ add f y (fin false 0 (pos 0))
 unfolding add
-add-r f y same = same
-add-r f nan (zeros s t) = same
-add-r f (inf u) (zeros s t) = same
-add-r f (fin u n d) (zeros s t) = ≈-trans (one s) (≈-sym (one t))
+add-r f nan = same
+add-r f (inf u) = same
+add-r f (fin u n d) = ≈-trans (one true) (≈-sym (one false))
   where
     one : (s : Bool) → sum f u (n * up d * 1) s (0 * down d) (down d * 1) ≈ round f u (n * up d * 1) (down d * 1)
     one s = sum-zero f s u (n * up d * 1) (down d * 1) (zero-mul (down d))
 
 pub add-≈ : (f : Format) {x y u v : Float} → x ≈ y → u ≈ v → add f x u ≈ add f y v
-add-≈ f {y} {u} p q = ≈-trans (add-l f u p) (add-r f y q)
+add-≈ f {y} {u} p q = ≈-trans (to-≈ (λ x. add f x u) (add-l f u) p) (to-≈ (add f y) (add-r f y) q)
 
 pub sub-≈ : (f : Format) {x y u v : Float} → x ≈ y → u ≈ v → sub f x u ≈ sub f y v
 unfolding sub
@@ -126,14 +135,16 @@ sub-≈ f p q = add-≈ f p (neg-≈ q)
 
 pub div-≈ : (f : Format) (y : Float) {x x' : Float} → x ≈ x' → div f x y ≈ div f x' y
 unfolding div
-div-≈ f y same = same
-div-≈ f nan (zeros s t) = same
-div-≈ f (inf u) (zeros s t) = zeros (unlike s u) (unlike t u)
-div-≈ f (fin u n d) (zeros s t) = go (eqb n 0)
+div-≈ f y = to-≈ (λ x. div f x y) (one y)
   where
-    go : (b : Bool) → cond b nan (round f (unlike s u) (0 * down d) (n * up d * 1)) ≈ cond b nan (round f (unlike t u) (0 * down d) (n * up d * 1))
-    go true = same
-    go false = rounds f (unlike s u) (unlike t u) (n * up d * 1) (zero-mul (down d))
+    go : (b u : Bool) (n : ℕ) (d : ℤ) → cond b nan (round f (unlike true u) (0 * down d) (n * up d * 1)) ≈ cond b nan (round f (unlike false u) (0 * down d) (n * up d * 1))
+    go true u n d = same
+    go false u n d = rounds f (unlike true u) (unlike false u) (n * up d * 1) (zero-mul (down d))
+
+    one : (y : Float) → div f (fin true 0 (pos 0)) y ≈ div f (fin false 0 (pos 0)) y
+    one nan = same
+    one (inf u) = zeros (unlike true u) (unlike false u)
+    one (fin u n d) = go (eqb n 0) u n d
 
 -- The two zeros as divisors give different infinities, so the divisor is not to be one.
 pub div-by-≈ : (f : Format) (x : Float) {y y' : Float} → isZero y ≡ false → y ≈ y' → div f x y ≈ div f x y'
@@ -146,65 +157,47 @@ div-by-≈ f x h (zeros s t) = absurd (false≢true (sym h ∙ is-zero s))
 
 -- ---- the comparisons
 
-below-l : (s t u : Bool) {a : ℕ} (b : ℕ) → a ≡ 0 → below s a u b ≡ below t a u b
-below-l s t u b e = rw e (go s u b ∙ sym (go t u b))
-  where
-    go : (s u : Bool) (b : ℕ) → below s 0 u b ≡ below false 0 u b
-    go false u b = refl
-    go true false b = rw zero-add
-    go true true b = lt-zero b
+-- a test of the digits that is the same at the two zeros, on either side
+module _ (test : Float → Float → Bool) (l : (y : Float) → test (fin true 0 (pos 0)) y ≡ test (fin false 0 (pos 0)) y)
+    (r : (y : Float) → test y (fin true 0 (pos 0)) ≡ test y (fin false 0 (pos 0))) where
+  both-≈ : {x y u v : Float} → x ≈ y → u ≈ v → test x u ≡ test y v
+  both-≈ {y} {u} p q = to-≡ (λ x. test x u) (l u) p ∙ to-≡ (test y) (r y) q
 
-below-r : (s t u : Bool) {a : ℕ} (b : ℕ) → a ≡ 0 → below u b s a ≡ below u b t a
-below-r s t u b e = rw e (go s u b ∙ sym (go t u b))
-  where
-    go : (s u : Bool) (b : ℕ) → below u b s 0 ≡ below u b false 0
-    go false u b = refl
-    go true false b = sym (lt-zero b)
-    go true true b = rw add-zero
-
-lt-l : (y : Float) {x x' : Float} → x ≈ x' → lt x y ≡ lt x' y
+lt-l : (y : Float) → lt (fin true 0 (pos 0)) y ≡ lt (fin false 0 (pos 0)) y
 unfolding lt
-lt-l y same = refl
-lt-l nan (zeros s t) = refl
-lt-l (inf u) (zeros s t) = refl
-lt-l (fin u n d) (zeros s t) = below-l s t u (n * up d * 1) (zero-mul (down d))
+lt-l nan = refl
+lt-l (inf u) = refl
+lt-l (fin true n d) = rw (zero-mul (down d)) (lt-zero (n * up d * 1))
+lt-l (fin false n d) = rw (zero-mul (down d), zero-add)
 
-lt-r : (y : Float) {x x' : Float} → x ≈ x' → lt y x ≡ lt y x'
+lt-r : (y : Float) → lt y (fin true 0 (pos 0)) ≡ lt y (fin false 0 (pos 0))
 unfolding lt
-lt-r y same = refl
-lt-r nan (zeros s t) = refl
-lt-r (inf u) (zeros s t) = refl
-lt-r (fin u n d) (zeros s t) = below-r s t u (n * up d * 1) (zero-mul (down d))
+lt-r nan = refl
+lt-r (inf u) = refl
+lt-r (fin true n d) = rw (zero-mul (down d), add-zero)
+lt-r (fin false n d) = rw (zero-mul (down d)) (sym (lt-zero (n * up d * 1)))
 
 pub lt-≈ : {x y u v : Float} → x ≈ y → u ≈ v → lt x u ≡ lt y v
-lt-≈ {y} {u} p q = lt-l u p ∙ lt-r y q
+lt-≈ = both-≈ lt lt-l lt-r
 
-level-l : (s t u : Bool) {a : ℕ} (b : ℕ) → a ≡ 0 → level s a u b ≡ level t a u b
-level-l s t u b e = rw (e, or-true (Bool·beq s u), or-true (Bool·beq t u))
+eq-l : (y : Float) → eq (fin true 0 (pos 0)) y ≡ eq (fin false 0 (pos 0)) y
+unfolding eq
+eq-l nan = refl
+eq-l (inf u) = refl
+eq-l (fin u n d) = rw (zero-mul (down d), or-true (Bool·beq true u), or-true (Bool·beq false u))
 
-level-r : (s t u : Bool) {a : ℕ} (b : ℕ) → a ≡ 0 → level u b s a ≡ level u b t a
-level-r s t u b e = rw e (go b)
+eq-r : (y : Float) → eq y (fin true 0 (pos 0)) ≡ eq y (fin false 0 (pos 0))
+unfolding eq
+eq-r nan = refl
+eq-r (inf u) = refl
+eq-r (fin u n d) = rw (zero-mul (down d)) (go (n * up d * 1))
   where
-    go : (b : ℕ) → level u b s 0 ≡ level u b t 0
-    go zero = or-true (Bool·beq u s) ∙ sym (or-true (Bool·beq u t))
-    go (suc b) = rw (eqb·suc-zero)
-
-eq-l : (y : Float) {x x' : Float} → x ≈ x' → eq x y ≡ eq x' y
-unfolding eq
-eq-l y same = refl
-eq-l nan (zeros s t) = refl
-eq-l (inf u) (zeros s t) = refl
-eq-l (fin u n d) (zeros s t) = level-l s t u (n * up d * 1) (zero-mul (down d))
-
-eq-r : (y : Float) {x x' : Float} → x ≈ x' → eq y x ≡ eq y x'
-unfolding eq
-eq-r y same = refl
-eq-r nan (zeros s t) = refl
-eq-r (inf u) (zeros s t) = refl
-eq-r (fin u n d) (zeros s t) = level-r s t u (n * up d * 1) (zero-mul (down d))
+    go : (b : ℕ) → level u b true 0 ≡ level u b false 0
+    go zero = or-true (Bool·beq u true) ∙ sym (or-true (Bool·beq u false))
+    go (suc b) = rw eqb·suc-zero
 
 pub eq-≈ : {x y u v : Float} → x ≈ y → u ≈ v → eq x u ≡ eq y v
-eq-≈ {y} {u} p q = eq-l u p ∙ eq-r y q
+eq-≈ = both-≈ eq eq-l eq-r
 
 -- ---- the tests, and what this crate computes
 
@@ -225,37 +218,20 @@ pub in-unit-≈ : {x y : Float} → x ≈ y → inUnit x ≡ inUnit y
 in-unit-≈ p = ap₂ (λ (a b : Bool). a && b) (le-≈ same p) (le-≈ p same)
 
 pub abs-≈ : {x y : Float} → x ≈ y → absOf x ≈ absOf y
-abs-≈ same = same
-abs-≈ (zeros s t) = same
+abs-≈ p = ≈-of (to-≡ absOf refl p)
 
 pub at-least-zero-≈ : {x y : Float} → x ≈ y → atLeastZero x ≈ atLeastZero y
-at-least-zero-≈ same = same
-at-least-zero-≈ (zeros s t) = ≈-of (at-zero s ∙ sym (at-zero t))
-  where
-    at-zero : (s : Bool) → atLeastZero (fin s 0 (pos 0)) ≡ zero64
-    at-zero true = unfold lt ofBits in refl
-    at-zero false = unfold lt ofBits in refl
+at-least-zero-≈ p = ≈-of (to-≡ atLeastZero (unfold lt ofBits in refl) p)
 
 pub sqrt-≈ : {x y : Float} → x ≈ y → sqrtOf x ≈ sqrtOf y
 unfolding sqrtOf
-sqrt-≈ same = same
-sqrt-≈ (zeros s t) = zeros s t
+sqrt-≈ = to-≈ sqrtOf (zeros true false)
 
 pub shown-≈ : {x y : Float} → x ≈ y → shownOf x ≡ shownOf y
-shown-≈ same = refl
-shown-≈ (zeros s t) = at-zero s ∙ sym (at-zero t)
-  where
-    at-zero : (s : Bool) → shownOf (fin s 0 (pos 0)) ≡ pos 0
-    at-zero true = unfold shownOf in refl
-    at-zero false = unfold shownOf in refl
+shown-≈ = to-≡ shownOf (unfold shownOf in refl)
 
 pub printed-bits-≈ : {x y : Float} → x ≈ y → printedBits x ≡ printedBits y
-printed-bits-≈ same = refl
-printed-bits-≈ (zeros s t) = at-zero s ∙ sym (at-zero t)
-  where
-    at-zero : (s : Bool) → printedBits (fin s 0 (pos 0)) ≡ 0
-    at-zero true = unfold eq ofBits in refl
-    at-zero false = unfold eq ofBits in refl
+printed-bits-≈ = to-≡ printedBits (unfold eq ofBits in refl)
 
 -- ---- `≈` of finite values is IEEE 754's `=`
 
@@ -267,7 +243,7 @@ eq-self (fin true m e) h = rw (is-true (eqb (m * up e * down e) (m * up e * down
 eq-self (fin false m e) h = rw (is-true (eqb (m * up e * down e) (m * up e * down e)) (eqb-refl (m * up e * down e)))
 
 pub eq-of-≈ : {x y : Float} → x ≈ y → T (isFinite x) → eq x y ≡ true
-eq-of-≈ {x} {y} p h = eq-r x (≈-sym p) ∙ eq-self x h
+eq-of-≈ {x} {y} p h = eq-≈ (same {x = x}) (≈-sym p) ∙ eq-self x h
 
 -- ---- a value that fits plus a zero is that value, up to the sign of a zero
 

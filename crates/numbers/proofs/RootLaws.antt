@@ -6,7 +6,7 @@ use native.Mathlib.Omega.{arith}
 use mathlib.Core.Bool.{Bool, true, false, cond}
 use lib.IntN.{pos}
 use lib.Dec.{T, ltb, ltb→lt}
-use lib.Pow.{pow-add, pow-pos, pow-lt}
+use lib.Pow.{pow-pos, pow-lt}
 use lib.Ieee.{Float, nan, inf, fin, Format, binary64, prec, emax, low, up, down, size, nearest, odd, units, lt, eq, ofBits, fits}
 use lib.Ieee.Fits.{up-pos, down-pos, odd-fits, nan-fits, inf-fits, nearest-le, kept-lt}
 use lib.Ieee.Positive.{first-pos}
@@ -16,22 +16,19 @@ use Rattle.numbers.specs.Constants.{zero64}
 use Rattle.numbers.specs.Tests.{isFinite}
 use Rattle.numbers.specs.Root.{square, wholeRoot, nearestRoot, sqrtOf}
 use Rattle.numbers.proofs.TestLaws.{holds, fails, zero-equal, zero-not-above}
-use Rattle.numbers.proofs.Rounded.{four-is}
+use Rattle.numbers.proofs.Rounded.{four-is, joined}
 
 -- ---- powers
 
 pub even-power : (m p : ℕ) → (p % 2 ≡ 1 → ⊥) → m * 2 ^ 52 * 4 ^ (p / 2) ≡ m * 2 ^ (p + 52)
-even-power m p e =
-    let h = p / 2 in
-    ap (λ (x : ℕ). m * 2 ^ 52 * x) (four-is h) ∙ mul-assoc m (2 ^ 52) (2 ^ (h + h)) ∙ ap (λ (x : ℕ). m * x) (sym (pow-add 2 52 (h + h)) ∙ ap (λ (x : ℕ). 2 ^ x) (sum p e))
+even-power m p e = ap (λ (x : ℕ). m * 2 ^ 52 * x) (four-is (p / 2)) ∙ joined m 52 (p / 2 + p / 2) (p + 52) (sum p e)
   where
     sum : (p : ℕ) → (p % 2 ≡ 1 → ⊥) → 52 + (p / 2 + p / 2) ≡ p + 52
     sum p e = omega arith
 
 pub odd-power : (m p : ℕ) → p % 2 ≡ 1 → 2 * m * 2 ^ 52 * 4 ^ (p / 2) ≡ m * 2 ^ (p + 52)
 odd-power m p e =
-    let h = p / 2 in
-    ap (λ (x : ℕ). 2 * m * 2 ^ 52 * x) (four-is h) ∙ ap (λ (x : ℕ). x * 2 ^ (h + h)) (twice m) ∙ mul-assoc m (2 ^ 53) (2 ^ (h + h)) ∙ ap (λ (x : ℕ). m * x) (sym (pow-add 2 53 (h + h)) ∙ ap (λ (x : ℕ). 2 ^ x) (sum p e))
+    ap (λ (x : ℕ). 2 * m * 2 ^ 52 * x) (four-is (p / 2)) ∙ ap (λ (x : ℕ). x * 2 ^ (p / 2 + p / 2)) (twice m) ∙ joined m 53 (p / 2 + p / 2) (p + 52) (sum p e)
   where
     sum : (p : ℕ) → p % 2 ≡ 1 → 53 + (p / 2 + p / 2) ≡ p + 52
     sum p e = omega arith
@@ -90,10 +87,7 @@ above-value (fin t (suc m) e) s w p v = first-pos w (down e) (subst (λ (x : ℕ
 pub scaled : (m e j d : ℕ) → d ≡ m * 2 ^ j → j < 53 → d * 2 ^ (e + 1022 - j + 52) ≡ m * 2 ^ e * 2 ^ 1074
 scaled m e j d h l =
     let a = e + 1022 - j + 52 in
-    ap (λ (x : ℕ). x * 2 ^ a) h
-    ∙ mul-assoc m (2 ^ j) (2 ^ a)
-    ∙ ap (λ (x : ℕ). m * x) (sym (pow-add 2 j a) ∙ ap (λ (x : ℕ). 2 ^ x) (sum e j l) ∙ pow-add 2 e 1074)
-    ∙ sym (mul-assoc m (2 ^ e) (2 ^ 1074))
+    ap (λ (x : ℕ). x * 2 ^ a) h ∙ joined m j a (e + 1074) (sum e j l) ∙ sym (joined m e 1074 (e + 1074) refl)
   where
     sum : (e j : ℕ) → j < 53 → j + (e + 1022 - j + 52) ≡ e + 1074
     sum e j h = omega arith

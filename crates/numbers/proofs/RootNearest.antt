@@ -23,7 +23,7 @@ use Rattle.numbers.proofs.ValueLaws.{digits-of}
 use Rattle.numbers.proofs.TestLaws.{holds, finite-of-value}
 use Rattle.numbers.proofs.RootLaws.{of-finite, above-value, sqrt-fits}
 use Rattle.numbers.proofs.Squares.{pow-lt-back, square-lt}
-use Rattle.numbers.proofs.Rounded.{compare-lt, compare-gt, four-is, square-shift, nearest-root-is}
+use Rattle.numbers.proofs.Rounded.{compare-lt, compare-gt, four-is, square-shift, nearest-root-is, joined}
 pub use Rattle.numbers.proofs.Squares.{whole-root-cut}
 
 -- ---- sides: the root of N lies from a up to b, u is at a or b or outside, and 4 * N is compared with the square of a + b
@@ -65,7 +65,7 @@ gap q k m j lead few = go (leb k j) refl
     go : (b : Bool) → leb k j ≡ b → (m * 2 ^ j ≤ q * 2 ^ k) ⊎ (suc q * 2 ^ k ≤ m * 2 ^ j)
     go true e =
         let d = m * 2 ^ (j - k) in
-        at d (leb d q) refl (mul-assoc m (2 ^ (j - k)) (2 ^ k) ∙ ap (λ (z : ℕ). m * z) (sym (pow-add 2 (j - k) k) ∙ ap (λ (z : ℕ). 2 ^ z) (back j k (leb-true k j e))))
+        at d (leb d q) refl (joined m (j - k) k j (back j k (leb-true k j e)))
     go false e =
         inl (le-trans (le-of-lt (shl-lt 53 j few))
         (le-trans (pow-mono (under j k (leb-false k j e))) (le-trans (le-of-eq (pow-add 2 52 k)) (mul-le-mul-right (2 ^ k) lead))))
@@ -167,7 +167,7 @@ module _ (n m j : ℕ) (is : n ≡ m * 2 ^ j) (is-odd : m % 2 ≡ 1) (few : m < 
   not-middle : middle ≡ 4 * N → ⊥
   not-middle h =
       no-tie m (j + 1076) q k is-odd few lead
-      (ap (λ (z : ℕ). m * z) (pow-add 2 j 1076) ∙ sym (mul-assoc m (2 ^ j) (2 ^ 1076)) ∙ ap (λ (z : ℕ). z * 2 ^ 1076) (sym is) ∙ sym (mul-left-comm 4 n (2 ^ 1074)) ∙ sym h)
+      (sym (joined m j 1076 (j + 1076) refl) ∙ ap (λ (z : ℕ). z * 2 ^ 1076) (sym is) ∙ sym (mul-left-comm 4 n (2 ^ 1074)) ∙ sym h)
 
   has : (v : ℕ) → v ≤ 2 ^ 53 → HasValue (units binary64 false v k) false (v * 2 ^ k) (2 ^ 1074)
   has v h =

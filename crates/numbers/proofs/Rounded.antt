@@ -29,7 +29,10 @@ compare-gt (suc a) (suc b) h = compare·suc-suc a b ∙ compare-gt a b (le-of-su
 pub size-exact : (a n : ℕ) → 2 ^ a ≤ n → n < 2 ^ suc a → size n ≡ suc a
 size-exact a n lo hi = le-antisymm (size-le n (suc a) hi) (pow-lt-back a (size n) (lt-of-le-of-lt lo (size-lt n)))
 
--- ---- 4 ^ k
+-- ---- powers
+
+pub joined : (m i j k : ℕ) → i + j ≡ k → m * 2 ^ i * 2 ^ j ≡ m * 2 ^ k
+joined m i j k e = mul-assoc m (2 ^ i) (2 ^ j) ∙ ap (λ (x : ℕ). m * x) (sym (pow-add 2 i j) ∙ ap (λ (x : ℕ). 2 ^ x) e)
 
 four-pow : (k : ℕ) → 4 ^ k ≡ 2 ^ k * 2 ^ k
 four-pow zero = refl

@@ -6,12 +6,12 @@ use native.Mathlib.Omega.{arith}
 use mathlib.Core.Bool.{Bool, true, false, not, _&&_, Bool·beq, or-true}
 use lib.IntN.{ℤ, pos}
 use lib.Dec.{T}
-use lib.Ieee.{Float, nan, inf, fin, binary64, up, down, lt, eq, neg, fits, isNan, ofBits}
+use lib.Ieee.{Float, nan, inf, fin, binary64, up, down, lt, eq, le, neg, fits, isNan, ofBits}
 use lib.Ieee.Exact.{HasValue}
 use lib.Ieee.Fits.{up-pos}
 use borrow.Author.Tests.{ltb-true, ltb-false}
 use Rattle.numbers.specs.Constants.{zero64}
-use Rattle.numbers.specs.Tests.{isFinite, absOf}
+use Rattle.numbers.specs.Tests.{isFinite, absOf, isEpsilon, inSine, inUnit}
 use Rattle.numbers.specs.Close.{_≈_, same, zeros}
 use Rattle.numbers.proofs.CloseLaws.{≈-of-eq}
 
@@ -41,6 +41,27 @@ between-infinities nan = refl
 between-infinities (inf true) = refl
 between-infinities (inf false) = refl
 between-infinities (fin s m e) = refl
+
+-- from one finite number to another
+bounded : (s t : Bool) (m n : ℕ) (e d : ℤ) (x : Float) → (le (fin s m e) x && le x (fin t n d)) ≡ true → isFinite x ≡ true
+unfolding le lt eq
+bounded s t m n e d nan p = absurd (holds p)
+bounded s t m n e d (inf true) p = absurd (holds p)
+bounded s t m n e d (inf false) p = absurd (holds p)
+bounded s t m n e d (fin u l k) p = refl
+
+pub in-unit-finite : (x : Float) → inUnit x ≡ true → isFinite x ≡ true
+unfolding ofBits
+in-unit-finite x p = bounded _ _ _ _ _ _ x p
+
+pub in-sine-finite : (x : Float) → inSine x ≡ true → isFinite x ≡ true
+unfolding neg ofBits
+in-sine-finite x p = bounded _ _ _ _ _ _ x p
+
+pub is-epsilon-finite : (x : Float) → isEpsilon x ≡ true → isFinite x ≡ true
+is-epsilon-finite nan p = absurd (holds p)
+is-epsilon-finite (inf s) p = absurd (holds p)
+is-epsilon-finite (fin s m e) p = refl
 
 -- ---- against zero
 

@@ -1,7 +1,7 @@
 -- The size of a signed number, and its text by the sign. `n < 0` of an i64 is a test of its 64 bits, read as signed. Assumes nothing.
 use Prim.Native.Nat.{ℕ, suc, _+_, _-_, _^_, _<_}
-use mathlib.Core.Path.{_≡_, sym, ap, _∙_, subst}
-use mathlib.Core.Bool.{Bool, true, false, cond}
+use mathlib.Core.Path.{_≡_, sym, ap, _∙_}
+use mathlib.Core.Bool.{Bool, true, false, cond, true≢false}
 use mathlib.Core.List.{[], _∷_, _++_}
 use native.Mathlib.Numerals.{add-one}
 use native.Mathlib.Omega.{arith}
@@ -35,8 +35,14 @@ not-minus m h = ap (λ (k : ℤ). ltZ k (pos 0)) (toZ-pos w64 m h) ∙ le-ltb m 
 is-minus : (m : ℕ) → SFits w64 (negsuc m) → minus (negsuc m) ≡ true
 is-minus m f = ap (λ (k : ℤ). ltZ k (pos 0)) (toZ-ofZ w64 (negsuc m) f)
 
-clash : {b : Bool} → b ≡ true → b ≡ false → ⊥
-clash {b} p q = let z : true ≡ false = sym p ∙ q in let y : _≡_ {A = ℕ} 0 1 = cc in omega arith
+-- an n below zero is a `negsuc m`, any other a `pos m`
+when-minus : (P : ℤ → Type 0) → ((m : ℕ) → SFits w64 (negsuc m) → P (negsuc m)) → (n : ℤ) → SFits w64 n → minus n ≡ true → P n
+when-minus P h (pos m) f e = absurd (true≢false (sym e ∙ not-minus m (f .sfits)))
+when-minus P h (negsuc m) f e = h m f
+
+when-plus : (P : ℤ → Type 0) → ((m : ℕ) → m < 2 ^ 63 → P (pos m)) → (n : ℤ) → SFits w64 n → minus n ≡ false → P n
+when-plus P h (pos m) f e = h m (f .sfits)
+when-plus P h (negsuc m) f e = absurd (true≢false (sym (is-minus m f) ∙ e))
 
 -- ---- below zero
 
@@ -54,20 +60,16 @@ wide : (m : ℕ) → m < 2 ^ 63 → Fits w64 m
 wide m h = record { fits = omega arith }
 
 pub less-fits : (n : ℤ) → SFits w64 n → minus n ≡ true → SFits w64 (less n)
-less-fits (pos m) f e = absurd (clash e (not-minus m (f .sfits)))
-less-fits (negsuc m) f e = subst (λ (z : ℤ). SFits w64 z) (sym (less-is m f)) (record { sfits = f .sfits })
+less-fits = when-minus (λ n. SFits w64 (less n)) (λ m f. rw (less-is m f) (record { sfits = f .sfits }))
 
 pub less-cast : (n : ℤ) → SFits w64 n → minus n ≡ true → T (nonNeg (held (less n))) × Fits w64 (natAbs (held (less n)))
-less-cast (pos m) f e = absurd (clash e (not-minus m (f .sfits)))
-less-cast (negsuc m) f e = subst (λ (z : ℤ). T (nonNeg z) × Fits w64 (natAbs z)) (sym (held-less m f)) (tt, wide m (f .sfits))
+less-cast = when-minus (λ n. T (nonNeg (held (less n))) × Fits w64 (natAbs (held (less n)))) (λ m f. rw (held-less m f) (tt, wide m (f .sfits)))
 
 pub less-size : (n : ℤ) → SFits w64 n → minus n ≡ true → natAbs (held (less n)) + 1 ≡ natAbs n
-less-size (pos m) f e = absurd (clash e (not-minus m (f .sfits)))
-less-size (negsuc m) f e = ap (λ (z : ℤ). natAbs z + 1) (held-less m f) ∙ add-one m
+less-size = when-minus (λ n. natAbs (held (less n)) + 1 ≡ natAbs n) (λ m f. ap (λ (z : ℤ). natAbs z + 1) (held-less m f) ∙ add-one m)
 
 pub less-room : (n : ℤ) → SFits w64 n → minus n ≡ true → Fits w64 (natAbs (held (less n)) + 1)
-less-room (pos m) f e = absurd (clash e (not-minus m (f .sfits)))
-less-room (negsuc m) f e = subst (λ (z : ℤ). Fits w64 (natAbs z + 1)) (sym (held-less m f)) (more m (f .sfits))
+less-room = when-minus (λ n. Fits w64 (natAbs (held (less n)) + 1)) (λ m f. rw (held-less m f) (more m (f .sfits)))
   where
     more : (m : ℕ) → m < 2 ^ 63 → Fits w64 (m + 1)
     more m h = record { fits = omega arith }
@@ -75,8 +77,7 @@ less-room (negsuc m) f e = subst (λ (z : ℤ). Fits w64 (natAbs z + 1)) (sym (h
 -- ---- not below zero
 
 pub size-cast : (n : ℤ) → SFits w64 n → minus n ≡ false → T (nonNeg (held n)) × Fits w64 (natAbs (held n))
-size-cast (pos m) f e = subst (λ (z : ℤ). T (nonNeg z) × Fits w64 (natAbs z)) (sym (toZ-pos w64 m (f .sfits))) (tt, wide m (f .sfits))
-size-cast (negsuc m) f e = absurd (clash (is-minus m f) e)
+size-cast = when-plus (λ n. T (nonNeg (held n)) × Fits w64 (natAbs (held n))) (λ m h. rw (toZ-pos w64 m h) (tt, wide m h))
 
 -- ---- the text
 
@@ -85,9 +86,7 @@ pub as-held : (n : ℤ) → SFits w64 n → held n ≡ n
 as-held n f = toZ-ofZ w64 n f
 
 pub text-minus : (n : ℤ) (k : ℕ) → SFits w64 n → minus n ≡ true → k ≡ natAbs (held n) → (45 ∷ []) ++ natText k ≡ intText n
-text-minus (pos m) k f e s = absurd (clash e (not-minus m (f .sfits)))
-text-minus (negsuc m) k f e s = ap (λ (j : ℕ). (45 ∷ []) ++ natText j) (s ∙ ap natAbs (as-held (negsuc m) f))
+text-minus n k f e s = when-minus (λ n. k ≡ natAbs n → (45 ∷ []) ++ natText k ≡ intText n) (λ m f s. ap (λ (j : ℕ). (45 ∷ []) ++ natText j) s) n f e (s ∙ ap natAbs (as-held n f))
 
 pub text-plus : (n : ℤ) (k : ℕ) → SFits w64 n → minus n ≡ false → k ≡ natAbs (held n) → natText k ≡ intText n
-text-plus (pos m) k f e s = ap natText (s ∙ ap natAbs (as-held (pos m) f))
-text-plus (negsuc m) k f e s = absurd (clash (is-minus m f) e)
+text-plus n k f e s = when-plus (λ n. k ≡ natAbs n → natText k ≡ intText n) (λ m h s. ap natText s) n f e (s ∙ ap natAbs (as-held n f))

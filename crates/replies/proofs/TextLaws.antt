@@ -1,19 +1,18 @@
 -- The texts of numbers by their last digit, and the lines of the means by the last of them. Assumes nothing.
 use Prim.Native.Nat.{ℕ, zero, suc, _+_, _-_, _/_, _%_, _≤_, _<_, min}
 use mathlib.Core.Path.{_≡_, refl, sym, ap, _∙_}
-use mathlib.Core.Bool.{Bool, cond}
+use mathlib.Core.Bool.{cond}
 use mathlib.Core.List.{List, [], _∷_, _++_, append-assoc, append-nil}
-use native.Mathlib.Nat.{zero-min, suc-min-suc}
+use native.Mathlib.Nat.{suc-ne-zero, zero-min, suc-min-suc}
 use native.Mathlib.Numerals.{add-one, sub-one}
-use native.Mathlib.Omega.{arith}
 use lib.Dec.{ltb}
 use lib.Ieee.{Float, nan}
 use lib.ListN.{length, getD, take}
 use lib.Seq.{take-suc, take-nil}
-use borrow.Author.Tests.{lt-ltb, le-ltb}
 use Rattle.numbers.specs.Bits.{printedBits}
 use Rattle.text.specs.Bytes.{bytes}
 use Rattle.text.specs.Numerals.{decimalText, hexText}
+use Rattle.text.proofs.SpellLaws.{short-text, long-text}
 use Rattle.replies.specs.Written.{Wrote}
 use Rattle.replies.specs.Printed.{realText, field, zLines}
 use Rattle.replies.proofs.WriteLaws.{none, join, spelled}
@@ -21,25 +20,18 @@ use Rattle.replies.proofs.WriteLaws.{none, join, spelled}
 -- ---- decimal
 
 decimal-one : (d n : ℕ) → (d ≡ 0 → ⊥) → n < 10 → (48 + n) ∷ [] ≡ decimalText d n
-unfolding decimalText
 decimal-one zero n z h = absurd (z refl)
-decimal-one (suc d) n z h = sym (ap (λ (b : Bool). cond b ((48 + n) ∷ []) (decimalText d (n / 10) ++ ((48 + n % 10) ∷ []))) (lt-ltb n 10 h))
+decimal-one (suc d) n z h = sym (short-text d n h)
 
 decimal-more : (d n : ℕ) → (d ≡ 0 → ⊥) → 10 ≤ n → decimalText (d - 1) (n / 10) ++ ((48 + n % 10) ∷ []) ≡ decimalText d n
-unfolding decimalText
 decimal-more zero n z h = absurd (z refl)
-decimal-more (suc d) n z h =
-    ap (λ (k : ℕ). decimalText k (n / 10) ++ ((48 + n % 10) ∷ [])) (sub-one (suc d))
-    ∙ sym (ap (λ (b : Bool). cond b ((48 + n) ∷ []) (decimalText d (n / 10) ++ ((48 + n % 10) ∷ []))) (le-ltb n 10 h))
+decimal-more (suc d) n z h = ap (λ (k : ℕ). decimalText k (n / 10) ++ ((48 + n % 10) ∷ [])) (sub-one (suc d)) ∙ sym (long-text d n h)
 
 module _ {at r : ℕ} {out : List ℕ} where
   pub digits-none : (d n : ℕ) → d ≡ 0 → r ≡ min at (length out) → Wrote at (decimalText d n) out r out
   unfolding decimalText
   digits-none zero n z e = none out e
-  digits-none (suc d) n z e = absurd (no d z)
-    where
-      no : (d : ℕ) → suc d ≡ 0 → ⊥
-      no d z = omega arith
+  digits-none (suc d) n z e = absurd (suc-ne-zero d z)
 
   pub digits-one : {out′ : List ℕ} (d n : ℕ) → (d ≡ 0 → ⊥) → n < 10 → Wrote at ((48 + n) ∷ []) out r out′ → Wrote at (decimalText d n) out r out′
   digits-one d n z h a = spelled (decimal-one d n z h) a
@@ -53,10 +45,7 @@ module _ {at r : ℕ} {out : List ℕ} where
   pub hex-none : (d n : ℕ) → d ≡ 0 → r ≡ min at (length out) → Wrote at (hexText d n) out r out
   unfolding hexText
   hex-none zero n z e = none out e
-  hex-none (suc d) n z e = absurd (no d z)
-    where
-      no : (d : ℕ) → suc d ≡ 0 → ⊥
-      no d z = omega arith
+  hex-none (suc d) n z e = absurd (suc-ne-zero d z)
 
   pub hex-more : {r′ b : ℕ} {out₁ out₂ : List ℕ} (d n : ℕ) → (d ≡ 0 → ⊥) → b ≡ cond (ltb (n % 16) 10) (48 + n % 16) (87 + n % 16)
       → Wrote at (hexText (d - 1) (n / 16)) out r out₁ → Wrote r (b ∷ []) out₁ r′ out₂ → Wrote at (hexText d n) out r′ out₂

@@ -1,31 +1,27 @@
 -- A loop that sets places of a list to one value, and the buffers of a step whose freed rows are cleared. Assumes nothing.
-use mathlib.Core.Path.{_≡_, sym, ap, _∙_, subst}
+use mathlib.Core.Path.{_≡_, refl, sym, ap, _∙_, subst}
 use mathlib.Core.Bool.{Bool, true, false, cond, _&&_}
 use mathlib.Core.List.{List, [], _∷_, _++_, append-assoc}
 use mathlib.Core.Logic.{⊎-elim}
 use Prim.Native.Nat.{ℕ, suc, _+_, _-_, _*_, _≤_, _<_}
-use native.Mathlib.Nat.{sub-self, mul-sub, mul-comm}
 use native.Mathlib.Numerals.{add-one}
 use native.Mathlib.Omega.{arith}
 use lib.Dec.{leb, ltb}
-use lib.ListN.{length, getD, set, take, drop, replicate, length-append, length-replicate, take-append-drop, replicate-append-replicate}
+use lib.ListN.{length, getD, set, take, drop, replicate, length-append, length-replicate, replicate-append-replicate}
 use lib.Seq.{length-take-le, drop-cons, set-at}
 use lib.Ieee.{Float}
 use borrow.Author.Tests.{lt-ltb, le-ltb, le-leb}
 use Rattle.numbers.specs.Constants.{zero64}
 use Rattle.terms.specs.Term.{Term}
 use Rattle.terms.proofs.CaseLaws.{lt-or-le, and-false}
-use Rattle.rows.specs.Rows.{rowsIn, keysOf, coeffsOf, wordsWith, coeffsWith, Holds, Stepped}
+use Rattle.rows.specs.Rows.{rowsIn, Holds, Stepped}
 use Rattle.rows.specs.Cleared.{filled, Cleared}
 use Rattle.rows.proofs.RowLaws.{row-before}
-use Rattle.rows.proofs.HoldLaws.{hold-count, room-at, keysOf-terms, coeffsOf-terms}
-use Rattle.rows.proofs.StepLaws.{held-rows, stepped, rows-room, room-yes, room-no}
+use Rattle.rows.proofs.HoldLaws.{hold-count, room-at}
+pub use Rattle.rows.proofs.StepLaws.{filled-none, rows-less}
+use Rattle.rows.proofs.StepLaws.{words-cleared, coeffs-cleared, held-rows, stepped, rows-room, room-yes, room-no}
 
 module _ {A : Type 0} (z : A) (a : ℕ) (l : List A) where
-  pub filled-none : l ≡ filled z a a l
-  unfolding filled
-  filled-none = sym (ap (λ (n : ℕ). take a l ++ (replicate n z ++ drop a l)) (sub-self a) ∙ take-append-drop a l)
-
   pub filled-suc : (i : ℕ) → a ≤ i → i < length l → set (filled z a i l) i z ≡ filled z a (i + 1) l
   unfolding filled
   filled-suc i h b =
@@ -53,27 +49,20 @@ module _ (w from to : ℕ) (ws : List ℕ) (cs : List Float) where
   pub clear-room : {r : ℕ} → from < to → r ≡ rowsIn w ws cs → to ≤ r → (from * (2 * w) + 2 * w ≤ to * (2 * w)) × (to * (2 * w) ≤ length ws)
   clear-room h e r = (row-before (2 * w) h, rows-room w to ws cs (rw (← e) r) .words-room)
 
+  cleared-by : {ws′ : List ℕ} {cs′ : List Float} (b : Bool) → clears ≡ b → ws′ ≡ cond b (filled 0 (from * (2 * w)) (to * (2 * w)) ws) ws
+      → cs′ ≡ cond b (filled zero64 (2 * from) (2 * to) cs) cs → Cleared w from to ws ws′ cs cs′
+  cleared-by b e p q = record { words = rw e p; coeffs = rw e q }
+
   pub cleared : {r : ℕ} {ws′ : List ℕ} {cs′ : List Float} → from < to → r ≡ rowsIn w ws cs → to ≤ r → ws′ ≡ filled 0 (from * (2 * w)) (to * (2 * w)) ws
       → cs′ ≡ filled zero64 (2 * from) (2 * to) cs → Cleared w from to ws ws′ cs cs′
-  cleared h e r p q =
-      let t : clears ≡ true = rw (lt-ltb from to h, room-yes w to ws cs e r) in
-      record {
-        words = p ∙ ap (λ (b : Bool). cond b (filled 0 (from * (2 * w)) (to * (2 * w)) ws) ws) (sym t);
-        coeffs = q ∙ ap (λ (b : Bool). cond b (filled zero64 (2 * from) (2 * to) cs) cs) (sym t);
-      }
-
-  not-cleared : clears ≡ false → Cleared w from to ws ws cs cs
-  not-cleared t = record {
-    words = ap (λ (b : Bool). cond b (filled 0 (from * (2 * w)) (to * (2 * w)) ws) ws) (sym t);
-    coeffs = ap (λ (b : Bool). cond b (filled zero64 (2 * from) (2 * to) cs) cs) (sym t);
-  }
+  cleared h e r p q = cleared-by true (rw (lt-ltb from to h, room-yes w to ws cs e r)) p q
 
   -- no rows, or rows that the buffers do not hold whole
   pub cleared-none : to ≤ from → Cleared w from to ws ws cs cs
-  cleared-none h = not-cleared (rw (le-ltb from to h))
+  cleared-none h = cleared-by false (rw (le-ltb from to h)) refl refl
 
   pub cleared-past : {r : ℕ} → r ≡ rowsIn w ws cs → r < to → Cleared w from to ws ws cs cs
-  cleared-past e h = not-cleared (rw (room-no w to ws cs e h) (and-false (ltb from to)))
+  cleared-past e h = cleared-by false (rw (room-no w to ws cs e h) (and-false (ltb from to))) refl refl
 
   -- both cases in one: an empty range leaves all as it is
   pub cleared-is : {ws′ : List ℕ} {cs′ : List Float} → from ≤ to → to ≤ rowsIn w ws cs → Cleared w from to ws ws′ cs cs′
@@ -92,25 +81,10 @@ module _ (w from to : ℕ) (ws : List ℕ) (cs : List Float) where
       ))
       (lt-or-le from to)
 
-pub rows-less : (s m n : ℕ) → n * s - m * s ≡ (n - m) * s
-rows-less s m n = rw (mul-comm n s, mul-comm m s, mul-comm (n - m) s) (sym (mul-sub s n m))
-
 -- m terms in n rows, and the rows past them cleared
 module _ (w n : ℕ) {m : ℕ} {ts : List Term} {ws₀ ws : List ℕ} {cs₀ cs : List Float} (H : Holds (2 * w) n m ts ws₀ ws cs₀ cs) where
-  words-cleared : {ws′ : List ℕ} → ws′ ≡ filled 0 (m * (2 * w)) (n * (2 * w)) ws → ws′ ≡ wordsWith w n ts ws₀
-  unfolding filled wordsWith
-  words-cleared e = e
-      ∙ (λ k. (sym (keysOf-terms (2 * w) m ws cs) ∙ ap keysOf (H .terms)) k ++ (replicate ((rows-less (2 * w) m n ∙ ap (λ (c : ℕ). (n - c) * (2 * w)) (sym (hold-count H))) k) 0 ++ H .words-kept k))
-
-  coeffs-cleared : {cs′ : List Float} → m ≤ n → 2 * n ≤ length cs₀ → cs′ ≡ filled zero64 (2 * m) (2 * n) cs → cs′ ≡ coeffsWith n ts cs₀
-  unfolding filled coeffsWith
-  coeffs-cleared le h e =
-      let room : 2 * m ≤ length cs = rw (H .coeffs-long) (omega arith) in
-      let free : 2 * n - 2 * m ≡ 2 * (n - length ts) = ap (λ (c : ℕ). 2 * n - 2 * c) (sym (hold-count H)) ∙ omega arith in
-      e ∙ (λ k. (sym (coeffsOf-terms (2 * w) m ws cs room) ∙ ap coeffsOf (H .terms)) k ++ (replicate (free k) zero64 ++ H .coeffs-kept k))
-
   pub stepped-cleared : {ws′ : List ℕ} {cs′ : List Float} (a : ℕ) → m ≤ n → n ≤ rowsIn w ws₀ cs₀ → Cleared w m n ws ws′ cs cs′ → Stepped w n n a ts m ws₀ ws′ cs₀ cs′
   stepped-cleared {ws′} {cs′} a le r C =
       let e = cleared-is w m n ws cs le (rw (held-rows w H) r) C in
       subst (λ (c : ℕ). Stepped w n n a ts c ws₀ ws′ cs₀ cs′) (hold-count H)
-      (stepped w n n a ts ws₀ cs₀ (le-leb n (rowsIn w ws₀ cs₀) r) (words-cleared (e .0)) (coeffs-cleared le (rows-room w n ws₀ cs₀ r .coeffs-room) (e .1)))
+      (stepped w n n a ts ws₀ cs₀ (le-leb n (rowsIn w ws₀ cs₀) r) (words-cleared w n H (e .0)) (coeffs-cleared w n H le (rows-room w n ws₀ cs₀ r .coeffs-room) (e .1)))

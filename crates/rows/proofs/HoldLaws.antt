@@ -1,5 +1,5 @@
 -- What a store into a row does to the terms that the buffers hold. Assumes nothing.
-use mathlib.Core.Path.{_≡_, refl, sym, ap, _∙_}
+use mathlib.Core.Path.{_≡_, refl, sym, ap, _∙_, subst}
 use mathlib.Core.List.{List, [], _∷_, _++_, append-assoc, append-nil}
 use Prim.Native.Nat.{ℕ, zero, suc, _+_, _*_, _≤_, _<_}
 use native.Mathlib.Nat.{suc-mul, mul-le-mul-right, zero-mul}
@@ -13,7 +13,7 @@ use Rattle.terms.specs.Lists.{tab, mapTo}
 use Rattle.terms.specs.Term.{Term, noTerm}
 use Rattle.rows.specs.Rows.{keyAt, termAt, termsIn, putCoeff, putKey, Holds, Room, keysOf, coeffsOf}
 use Rattle.terms.proofs.ListLaws.{length-tab, getD-tab, tab-ext, tab-snoc, tab-set, mapTo-suc}
-use Rattle.rows.proofs.RowLaws.{length-putCoeff, val-put-same, val-put-other, drop-putCoeff, row-before, drop-more, length-putKey, drop-putKey, key-put-same, key-put-other}
+use Rattle.rows.proofs.RowLaws.{length-key, put-key-same, length-putCoeff, val-put-same, val-put-other, drop-putCoeff, row-before, drop-more, length-putKey, drop-putKey, key-put-same, key-put-other}
 
 pub hold-start : (s R m : ℕ) (ws : List ℕ) (cs : List Float) → Holds s R m (termsIn s m ws cs) ws ws cs cs
 hold-start s R m ws cs = record { terms = refl; words-kept = refl; coeffs-kept = refl; words-long = refl; coeffs-long = refl }
@@ -28,58 +28,49 @@ module _ {s R m : ℕ} {ts : List Term} {ws₀ ws : List ℕ} {cs₀ cs : List F
   pub hold-room : Room s R ws₀ cs₀ → Room s R ws cs
   hold-room r = record { words-room = rw (H .words-long) (r .words-room); coeffs-room = rw (H .coeffs-long) (r .coeffs-room) }
 
-  -- another coefficient in row i
-  pub hold-val : Room s R ws cs → m ≤ R → (i : ℕ) → i < m → (v : Complex64)
-      → Holds s R m (set ts i (record { key = keyAt s ws i; coeff = v })) ws₀ ws cs₀ (putCoeff cs i v)
-  hold-val r le i h v =
-      let room = r .coeffs-room in
-      record {
-        terms = tab-set m (termAt s ws cs) (termAt s ws (putCoeff cs i v)) i (record { key = keyAt s ws i; coeff = v }) h
-            (λ k. record { key = keyAt s ws i; coeff = val-put-same cs i v (omega arith) k })
-            (λ j l n k. record { key = keyAt s ws j; coeff = val-put-other cs i j v n k })
-            ∙ ap (λ (l : List Term). set l i (record { key = keyAt s ws i; coeff = v })) (H .terms);
-        words-kept = H .words-kept;
-        coeffs-kept = drop-putCoeff (2 * R) cs i v (omega arith) ∙ H .coeffs-kept;
-        words-long = H .words-long;
-        coeffs-long = length-putCoeff cs i v ∙ H .coeffs-long;
-      }
+  -- a term stored in row i
+  module _ (r : Room s R ws cs) (i : ℕ) (lt : i < R) (t : Term) (e : length (t .key) ≡ s) where
+    within : i * s + s ≤ length ws
+    within = let b = row-before s lt in omega (arith, r .words-room)
+
+    put-same : termAt s (putKey s ws i (t .key)) (putCoeff cs i (t .coeff)) i ≡ t
+    put-same = let room = r .coeffs-room in λ k. record { key = key-put-same s ws i (t .key) within e k; coeff = val-put-same cs i (t .coeff) (omega arith) k }
+
+    put-other : (j : ℕ) → (j ≡ i → ⊥) → termAt s (putKey s ws i (t .key)) (putCoeff cs i (t .coeff)) j ≡ termAt s ws cs j
+    put-other j n = λ k. record { key = key-put-other s ws i (t .key) within e j n k; coeff = val-put-other cs i j (t .coeff) n k }
+
+    put-row : (n : ℕ) (us : List Term) → termsIn s n (putKey s ws i (t .key)) (putCoeff cs i (t .coeff)) ≡ us
+        → Holds s R n us ws₀ (putKey s ws i (t .key)) cs₀ (putCoeff cs i (t .coeff))
+    put-row n us q = record {
+      terms = q;
+      words-kept = drop-more (i * s + s) (R * s) (putKey s ws i (t .key)) ws (row-before s lt) (drop-putKey s ws i (t .key) within e) ∙ H .words-kept;
+      coeffs-kept = drop-putCoeff (2 * R) cs i (t .coeff) (omega arith) ∙ H .coeffs-kept;
+      words-long = length-putKey s ws i (t .key) within e ∙ H .words-long;
+      coeffs-long = length-putCoeff cs i (t .coeff) ∙ H .coeffs-long;
+    }
 
   -- another term in row i
   pub hold-set : Room s R ws cs → m ≤ R → (i : ℕ) → i < m → (t : Term) → length (t .key) ≡ s
       → Holds s R m (set ts i t) ws₀ (putKey s ws i (t .key)) cs₀ (putCoeff cs i (t .coeff))
   hold-set r le i h t e =
-      let room = r .coeffs-room in
-      let ri : i * s + s ≤ R * s = row-before s (omega arith) in
-      let rw : i * s + s ≤ length ws = omega (arith, r .words-room) in
-      record {
-        terms = tab-set m (termAt s ws cs) (termAt s (putKey s ws i (t .key)) (putCoeff cs i (t .coeff))) i t h
-            (λ k. record { key = key-put-same s ws i (t .key) rw e k; coeff = val-put-same cs i (t .coeff) (omega arith) k })
-            (λ j l n k. record { key = key-put-other s ws i (t .key) rw e j n k; coeff = val-put-other cs i j (t .coeff) n k })
-            ∙ ap (λ (l : List Term). set l i t) (H .terms);
-        words-kept = drop-more (i * s + s) (R * s) (putKey s ws i (t .key)) ws ri (drop-putKey s ws i (t .key) rw e) ∙ H .words-kept;
-        coeffs-kept = drop-putCoeff (2 * R) cs i (t .coeff) (omega arith) ∙ H .coeffs-kept;
-        words-long = length-putKey s ws i (t .key) rw e ∙ H .words-long;
-        coeffs-long = length-putCoeff cs i (t .coeff) ∙ H .coeffs-long;
-      }
+      let lt : i < R = omega arith in
+      put-row r i lt t e m (set ts i t) (tab-set m (termAt s ws cs) _ i t h (put-same r i lt t e) (λ j l n. put-other r i lt t e j n) ∙ ap (λ (l : List Term). set l i t) (H .terms))
+
+  -- another coefficient
+  pub hold-val : Room s R ws cs → m ≤ R → (i : ℕ) → i < m → (v : Complex64)
+      → Holds s R m (set ts i (record { key = keyAt s ws i; coeff = v })) ws₀ ws cs₀ (putCoeff cs i v)
+  hold-val r le i h v =
+      let t : Term = record { key = keyAt s ws i; coeff = v } in
+      subst (λ (l : List ℕ). Holds s R m (set ts i t) ws₀ l cs₀ (putCoeff cs i v)) (put-key-same s ws i)
+      (hold-set r le i h t (length-key s ws i (let b : i * s + s ≤ R * s = row-before s (omega arith) in omega (arith, r .words-room))))
 
   -- a term more, in row m
   pub hold-push : Room s R ws cs → m < R → (t : Term) → length (t .key) ≡ s
       → Holds s R (m + 1) (ts ++ (t ∷ [])) ws₀ (putKey s ws m (t .key)) cs₀ (putCoeff cs m (t .coeff))
   hold-push r lt t e =
-      let room = r .coeffs-room in
-      let rm : m * s + s ≤ R * s = row-before s lt in
-      let rw : m * s + s ≤ length ws = omega (arith, r .words-room) in
       let f : ℕ → Term = termAt s (putKey s ws m (t .key)) (putCoeff cs m (t .coeff)) in
-      let last : f m ≡ t = λ k. record { key = key-put-same s ws m (t .key) rw e k; coeff = val-put-same cs m (t .coeff) (omega arith) k } in
-      let front : tab m f ≡ ts = tab-ext m f (termAt s ws cs)
-      (λ j l k. record { key = key-put-other s ws m (t .key) rw e j (λ q. omega arith) k; coeff = val-put-other cs m j (t .coeff) (λ q. omega arith) k }) ∙ H .terms in
-      record {
-        terms = ap (λ (n : ℕ). tab n f) (add-one m) ∙ tab-snoc m f ∙ (λ k. front k ++ (last k ∷ []));
-        words-kept = drop-more (m * s + s) (R * s) (putKey s ws m (t .key)) ws rm (drop-putKey s ws m (t .key) rw e) ∙ H .words-kept;
-        coeffs-kept = drop-putCoeff (2 * R) cs m (t .coeff) (omega arith) ∙ H .coeffs-kept;
-        words-long = length-putKey s ws m (t .key) rw e ∙ H .words-long;
-        coeffs-long = length-putCoeff cs m (t .coeff) ∙ H .coeffs-long;
-      }
+      let front : tab m f ≡ ts = tab-ext m f (termAt s ws cs) (λ j l. put-other r m lt t e j (λ q. omega arith)) ∙ H .terms in
+      put-row r m lt t e (m + 1) (ts ++ (t ∷ [])) (ap (λ (n : ℕ). tab n f) (add-one m) ∙ tab-snoc m f ∙ (λ k. front k ++ (put-same r m lt t e k ∷ [])))
 
 -- ---- the terms written back
 

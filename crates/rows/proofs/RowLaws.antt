@@ -1,14 +1,15 @@
 -- Laws of rows: what a store into one row leaves in each. Assumes nothing.
-use mathlib.Core.Path.{_≡_, sym, ap, _∙_, subst}
+use mathlib.Core.Path.{_≡_, sym, ap, _∙_}
 use mathlib.Core.Logic.{⊎-elim}
 use mathlib.Core.List.{List, _++_, append-assoc}
 use Prim.Native.Nat.{ℕ, _+_, _-_, _*_, _≤_, _<_}
-use native.Mathlib.Nat.{suc-mul, mul-le-mul-right, eq-or-lt-of-le}
 use native.Mathlib.Omega.{arith}
-use lib.ListN.{length, getD, set, take, drop, length-set, length-append, length-drop, take-append-drop}
-use lib.Seq.{getD-set-same, getD-set-other, drop-set-lt, length-take-le, take-append-le, drop-append-le, take-at, drop-at, drop-drop, getD-take, getD-drop, paste, paste-zero, paste-suc, set-getD, drop-paste}
+use lib.ListN.{length, getD, set, take, drop, length-set, length-drop, take-append-drop}
+use lib.Seq.{getD-set-same, getD-set-other, drop-set-lt, length-take-le, take-at, drop-drop, getD-take, getD-drop, paste, paste-zero, paste-suc, set-getD, drop-paste}
 use native.Mathlib.Numerals.{add-one}
 use lib.Ieee.{Float, nan}
+use Rattle.words.proofs.RowLaws.{length-part, length-withPart, drop-withPart, part-same, part-other}
+pub use Rattle.words.proofs.RowLaws.{row-before, drop-more, after}
 use Rattle.terms.specs.declared.Complex64.{Complex64}
 use Rattle.terms.proofs.CaseLaws.{lt-or-le}
 use Rattle.rows.specs.Rows.{keyAt, coeffAt, putCoeff, putKey}
@@ -41,52 +42,18 @@ put-val-same cs i = ap (λ (l : List Float). set l (2 * i + 1) (getD cs (2 * i +
 
 -- ---- keys
 
--- a row ends where a later one begins, or before
-pub row-before : (s : ℕ) {i j : ℕ} → i < j → i * s + s ≤ j * s
-row-before s {i} {j} h = subst (λ (n : ℕ). n ≤ j * s) (suc-mul i s) (mul-le-mul-right s h)
-
-pub drop-more : {A : Type 0} (p q : ℕ) (x y : List A) → p ≤ q → drop p x ≡ drop p y → drop q x ≡ drop q y
-drop-more p q x y h e =
-    let s : p + (q - p) ≡ q = omega arith in
-    subst (λ (n : ℕ). drop n x ≡ drop n y) s (sym (drop-drop (q - p) p x) ∙ ap (drop (q - p)) e ∙ drop-drop (q - p) p y)
-
--- a key lies in a prefix that has it whole
-pub key-prefix : (s : ℕ) (a b : List ℕ) (j : ℕ) → j * s + s ≤ length a → keyAt s (a ++ b) j ≡ keyAt s a j
-key-prefix s a b j h =
-    ap (take s) (drop-append-le (j * s) a b (omega arith))
-    ∙ take-append-le s (drop (j * s) a) b (simp length-drop (omega arith))
-
-pub key-suffix : (s p : ℕ) (x y : List ℕ) (j : ℕ) → p ≤ j * s → drop p x ≡ drop p y → keyAt s x j ≡ keyAt s y j
-key-suffix s p x y j h e = ap (take s) (drop-more p (j * s) x y h e)
-
-pub after : {i j : ℕ} → i ≤ j → (j ≡ i → ⊥) → i < j
-after {i} {j} l n = ⊎-elim (λ e. absurd (n (sym e))) (λ h. h) (eq-or-lt-of-le l)
-
 module _ (s : ℕ) (ws : List ℕ) (i : ℕ) (k : List ℕ) (room : i * s + s ≤ length ws) (whole : length k ≡ s) where
-  head-length : length (take (i * s) ws) ≡ i * s
-  head-length = length-take-le (i * s) ws (omega arith)
-
   pub length-putKey : length (putKey s ws i k) ≡ length ws
-  length-putKey = rw (length-append, length-append, length-drop, head-length) (omega arith)
+  length-putKey = length-withPart s ws i k room whole
 
   pub drop-putKey : drop (i * s + s) (putKey s ws i k) ≡ drop (i * s + s) ws
-  drop-putKey =
-      ap (drop (i * s + s)) (sym (append-assoc (take (i * s) ws) k (drop (i * s + s) ws)))
-      ∙ drop-at (take (i * s) ws ++ k) (drop (i * s + s) ws) (i * s + s) (length-append (take (i * s) ws) k ∙ (λ z. head-length z + whole z))
+  drop-putKey = drop-withPart s ws i k room whole
 
   pub key-put-same : keyAt s (putKey s ws i k) i ≡ k
-  key-put-same =
-      ap (take s) (drop-at (take (i * s) ws) (k ++ drop (i * s + s) ws) (i * s) head-length)
-      ∙ take-at k (drop (i * s + s) ws) s whole
+  key-put-same = part-same s ws i k room whole
 
   pub key-put-other : (j : ℕ) → (j ≡ i → ⊥) → keyAt s (putKey s ws i k) j ≡ keyAt s ws j
-  key-put-other j n = ⊎-elim
-      (λ (l : j < i).
-      let r : j * s + s ≤ length (take (i * s) ws) = rw head-length (row-before s l) in
-      key-prefix s (take (i * s) ws) (k ++ drop (i * s + s) ws) j r
-      ∙ sym (key-prefix s (take (i * s) ws) (drop (i * s) ws) j r) ∙ ap (λ (z : List ℕ). keyAt s z j) (take-append-drop (i * s) ws))
-      (λ (l : i ≤ j). key-suffix s (i * s + s) (putKey s ws i k) ws j (row-before s (after l n)) drop-putKey)
-      (lt-or-le j i)
+  key-put-other = part-other s ws i k room whole
 
 -- ---- one word of a row
 
@@ -94,7 +61,7 @@ pub word-at : (s : ℕ) (ws : List ℕ) (i k : ℕ) → k < s → getD (keyAt s 
 word-at s ws i k h = getD-take s (drop (i * s) ws) k 0 h ∙ getD-drop (i * s) ws k 0
 
 pub length-key : (s : ℕ) (ws : List ℕ) (i : ℕ) → i * s + s ≤ length ws → length (keyAt s ws i) ≡ s
-length-key s ws i h = length-take-le s (drop (i * s) ws) (simp length-drop (omega arith))
+length-key = length-part
 
 -- ---- a row copied to a later one, word by word
 

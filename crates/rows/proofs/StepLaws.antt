@@ -1,32 +1,30 @@
 -- From what a loop holds to what a public step leaves: with room the terms in order and the rest as it was, without room all as it was.
 -- Assumes nothing.
-use mathlib.Core.Path.{_≡_, sym, ap, _∙_, subst}
+use mathlib.Core.Path.{_≡_, refl, sym, ap, _∙_, subst}
 use mathlib.Core.Bool.{Bool, true, false, cond}
 use mathlib.Core.List.{List, _++_, map}
-use Prim.Native.Nat.{ℕ, zero, suc, _-_, _*_, _/_, _≤_, _<_, min}
-use native.Mathlib.Nat.{le-trans, min-le-left, min-le-right, le-div-iff-mul-le, div-zero, zero-mul}
+use Prim.Native.Nat.{ℕ, _-_, _*_, _/_, _≤_, _<_, min}
+use native.Mathlib.Nat.{le-refl, sub-self, mul-sub, mul-comm, le-trans, min-le-left, min-le-right}
 use native.Mathlib.Omega.{arith}
 use lib.Dec.{leb}
-use lib.ListN.{length, drop, replicate, take-append-drop}
+use lib.ListN.{length, take, drop, replicate, take-append-drop}
 use lib.Ieee.{Float}
 use borrow.Author.Tests.{le-leb, lt-leb, leb-true}
 use Rattle.numbers.specs.Constants.{zero64}
 use Rattle.terms.specs.Lists.{mapTo}
 use Rattle.terms.specs.Term.{Term}
 use Rattle.terms.proofs.ListLaws.{mapTo-all, length-tab}
+use Rattle.words.proofs.RowSteps.{rows-fit}
+use Rattle.rows.specs.Cleared.{filled}
 use Rattle.rows.specs.Rows.{termAt, termsIn, rowsIn, keysOf, coeffsOf, wordsWith, coeffsWith, Stepped, Grown, Holds, Room}
 use Rattle.rows.proofs.HoldLaws.{hold-count, keysOf-terms, coeffsOf-terms}
 
 -- ---- rows that two buffers hold whole
 
-fit : (n w l : ℕ) → n ≤ l / (2 * w) → n * (2 * w) ≤ l
-fit n zero l h = let z : n ≤ 0 = subst (λ (x : ℕ). n ≤ x) (div-zero l) h in omega arith
-fit n (suc w) l h = let p : 0 < 2 * suc w = omega arith in le-div-iff-mul-le p .0 h
-
 pub rows-room : (w n : ℕ) (ws : List ℕ) (cs : List Float) → n ≤ rowsIn w ws cs → Room (2 * w) n ws cs
 rows-room w n ws cs h =
     let a : n ≤ length cs / 2 = le-trans h (min-le-right _ _) in
-    record { words-room = fit n w (length ws) (le-trans h (min-le-left _ _)); coeffs-room = omega arith }
+    record { words-room = rows-fit n w (length ws) (le-trans h (min-le-left _ _)); coeffs-room = omega arith }
 
 -- the test of a public step
 pub room-yes : (w n : ℕ) (ws : List ℕ) (cs : List Float) {r : ℕ} → r ≡ rowsIn w ws cs → n ≤ r → leb n (rowsIn w ws cs) ≡ true
@@ -37,41 +35,48 @@ room-no w n ws cs e h = lt-leb n (rowsIn w ws cs) (subst (λ (x : ℕ). x < n) e
 
 -- ---- the buffers as a step leaves them
 
-none-free : (n m : ℕ) → n ≡ m → (n - m) ≡ 0
-none-free n m e = omega arith
+pub filled-none : {A : Type 0} (z : A) (a : ℕ) (l : List A) → l ≡ filled z a a l
+unfolding filled
+filled-none z a l = sym (ap (λ (n : ℕ). take a l ++ (replicate n z ++ drop a l)) (sub-self a) ∙ take-append-drop a l)
 
+pub rows-less : (s m n : ℕ) → n * s - m * s ≡ (n - m) * s
+rows-less s m n = rw (mul-comm n s, mul-comm m s, mul-comm (n - m) s) (sym (mul-sub s n m))
+
+-- m terms in n rows, and the rows past them cleared
+module _ (w n : ℕ) {m : ℕ} {ts : List Term} {ws₀ ws : List ℕ} {cs₀ cs : List Float} (H : Holds (2 * w) n m ts ws₀ ws cs₀ cs) where
+  pub words-cleared : {ws′ : List ℕ} → ws′ ≡ filled 0 (m * (2 * w)) (n * (2 * w)) ws → ws′ ≡ wordsWith w n ts ws₀
+  unfolding filled wordsWith
+  words-cleared e = e
+      ∙ (λ k. (sym (keysOf-terms (2 * w) m ws cs) ∙ ap keysOf (H .terms)) k ++ (replicate ((rows-less (2 * w) m n ∙ ap (λ (c : ℕ). (n - c) * (2 * w)) (sym (hold-count H))) k) 0 ++ H .words-kept k))
+
+  pub coeffs-cleared : {cs′ : List Float} → m ≤ n → 2 * n ≤ length cs₀ → cs′ ≡ filled zero64 (2 * m) (2 * n) cs → cs′ ≡ coeffsWith n ts cs₀
+  unfolding filled coeffsWith
+  coeffs-cleared le h e =
+      let room : 2 * m ≤ length cs = rw (H .coeffs-long) (omega arith) in
+      let free : 2 * n - 2 * m ≡ 2 * (n - length ts) = ap (λ (c : ℕ). 2 * n - 2 * c) (sym (hold-count H)) ∙ omega arith in
+      e ∙ (λ k. (sym (coeffsOf-terms (2 * w) m ws cs room) ∙ ap coeffsOf (H .terms)) k ++ (replicate (free k) zero64 ++ H .coeffs-kept k))
+
+-- no row past them
 module _ (w : ℕ) {m : ℕ} {ts : List Term} {ws₀ ws : List ℕ} {cs₀ cs : List Float} (H : Holds (2 * w) m m ts ws₀ ws cs₀ cs) where
   pub held-words : ws ≡ wordsWith w m ts ws₀
-  unfolding wordsWith
-  held-words =
-      sym (take-append-drop (m * (2 * w)) ws)
-      ∙ (λ k. (sym (keysOf-terms (2 * w) m ws cs) ∙ ap keysOf (H .terms)) k ++ H .words-kept k)
-      ∙ ap (λ (k : ℕ). keysOf ts ++ (replicate k 0 ++ drop (m * (2 * w)) ws₀)) (sym (ap (λ (k : ℕ). k * (2 * w)) (none-free m (length ts) (sym (hold-count H))) ∙ zero-mul (2 * w)))
+  held-words = words-cleared w m H (filled-none 0 (m * (2 * w)) ws)
 
   pub held-coeffs : 2 * m ≤ length cs₀ → cs ≡ coeffsWith m ts cs₀
-  unfolding coeffsWith
-  held-coeffs h =
-      sym (take-append-drop (2 * m) cs)
-      ∙ (λ k. (sym (coeffsOf-terms (2 * w) m ws cs (rw (H .coeffs-long) h)) ∙ ap coeffsOf (H .terms)) k ++ H .coeffs-kept k)
-      ∙ ap (λ (k : ℕ). coeffsOf ts ++ (replicate (2 * k) zero64 ++ drop (2 * m) cs₀)) (sym (none-free m (length ts) (sym (hold-count H))))
+  held-coeffs h = coeffs-cleared w m H (le-refl m) h (filled-none zero64 (2 * m) cs)
 
 module _ (w need R n : ℕ) (ts : List Term) (ws : List ℕ) (cs : List Float) where
+  stepped-by : {r : ℕ} {ws′ : List ℕ} {cs′ : List Float} (b : Bool) → leb need (rowsIn w ws cs) ≡ b → r ≡ cond b (length ts) n
+      → ws′ ≡ cond b (wordsWith w R ts ws) ws → cs′ ≡ cond b (coeffsWith R ts cs) cs → Stepped w need R n ts r ws ws′ cs cs′
+  stepped-by b e c p q = record { count = rw e c; words = rw e p; coeffs = rw e q }
+
   -- with room
   pub stepped : {ws′ : List ℕ} {cs′ : List Float} → leb need (rowsIn w ws cs) ≡ true → ws′ ≡ wordsWith w R ts ws → cs′ ≡ coeffsWith R ts cs
       → Stepped w need R n ts (length ts) ws ws′ cs cs′
-  stepped e p q = record {
-    count = ap (λ (b : Bool). cond b (length ts) n) (sym e);
-    words = p ∙ ap (λ (b : Bool). cond b (wordsWith w R ts ws) ws) (sym e);
-    coeffs = q ∙ ap (λ (b : Bool). cond b (coeffsWith R ts cs) cs) (sym e);
-  }
+  stepped e p q = stepped-by true e refl p q
 
   -- without room
   pub unstepped : leb need (rowsIn w ws cs) ≡ false → Stepped w need R n ts n ws ws cs cs
-  unstepped e = record {
-    count = ap (λ (b : Bool). cond b (length ts) n) (sym e);
-    words = ap (λ (b : Bool). cond b (wordsWith w R ts ws) ws) (sym e);
-    coeffs = ap (λ (b : Bool). cond b (coeffsWith R ts cs) cs) (sym e);
-  }
+  unstepped e = stepped-by false e refl refl refl
 
 -- a step that reaches just its terms
 pub stepped-held : (w need n : ℕ) {m : ℕ} {ts : List Term} {ws ws′ : List ℕ} {cs cs′ : List Float} → leb need (rowsIn w ws cs) ≡ true

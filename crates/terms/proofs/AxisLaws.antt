@@ -117,7 +117,7 @@ module _ (w : ℕ) where
   x-kept : (k : Key) (q r : ℕ) → q < 64 * w → bitAt (flipAt k (zAt w r)) q ≡ bitAt k q
   x-kept k q r h = bitAt-flip-other k (zAt w r) q (λ e. omega arith)
 
-  on-both : (a b : ℕ) → onKey w (Zz a b) ≡ true → (a < 64 * w) × ((b < 64 * w) × (a ≢ b))
+  pub on-both : (a b : ℕ) → onKey w (Zz a b) ≡ true → (a < 64 * w) × ((b < 64 * w) × (a ≢ b))
   on-both a b on =
       let p = and-true (ltb a (64 * w)) _ on in
       let q = and-true (ltb b (64 * w)) _ (p .1) in

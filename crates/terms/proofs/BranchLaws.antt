@@ -23,10 +23,11 @@ use Rattle.terms.specs.Lists.{tab, All}
 use Rattle.terms.specs.Term.{Term, term, noTerm, Distinct, find}
 use Rattle.terms.specs.Rotation.{scaledMet, flippedTerm, mixed, turnedTerm, appendedTerm, turnedRow, appendedRows, rotated}
 use Rattle.terms.specs.Branch.{first, rowOf, branchPair, branchLone, branchBy, branchRow, branchTo, branched}
-use Rattle.terms.proofs.CaseLaws.{same-test, lt-or-le, eq-or-ne, bool-cases}
+use Rattle.terms.proofs.CaseLaws.{cond-holds, same-test, lt-or-le, eq-or-ne, bool-cases}
+use Rattle.terms.proofs.StepLaws.{appendedOf, row-cases, rotated-keeps}
 use Rattle.terms.proofs.ListLaws.{length-tab, getD-tab, tab-ext, tab-set, map-tab}
 use Rattle.terms.proofs.FirstLaws.{orLater, first-cons, first-ext, first-at, first-nothing}
-use Rattle.terms.proofs.AllLaws.{all-at, all-of, all-every, all-imp, all-and, all-append, all-map}
+use Rattle.terms.proofs.AllLaws.{all-at, all-of, all-every, all-imp, all-and, all-map}
 use Rattle.terms.proofs.DistinctLaws.{Other, other-key, Apart, apart-of, distinct-of, distinct-append, distinct-map, same-distinct, map-keys, cond-key}
 
 -- ---- the first row that has a word, and its coefficient
@@ -103,32 +104,13 @@ module _ (met : Key → Bool) (partner : Key → Key) (sin cos : Float) where
   TurnedKey old t u = (u .key ≡ t .key) ⊎ ((isZero cos ≡ true) × ((find (partner (t .key)) old ≡ none) × (u .key ≡ partner (t .key))))
 
   pub turned-key : (old : List Term) (t : Term) → TurnedKey old t (turnedRow met partner sin cos old t)
-  turned-key old t = go (met (t .key)) (find (partner (t .key)) old) refl
-    where
-      lone : find (partner (t .key)) old ≡ none → (c : Bool) → isZero cos ≡ c
-          → TurnedKey old t (cond c (flippedTerm met partner sin cos t) (term (t .key) (scaledOf cos (t .coeff))))
-      lone e true z = inr (z, (e, refl))
-      lone e false z = inl refl
-
-      go : (b : Bool) (f : Option Complex64) → find (partner (t .key)) old ≡ f → TurnedKey old t (cond b (turnedTerm met partner sin cos t f) t)
-      go false f e = inl refl
-      go true (some d) e = inl refl
-      go true none e = lone e (isZero cos) refl
+  turned-key old t = row-cases met partner sin cos old t (λ u l. TurnedKey old t u) (λ m. inl refl) (λ d m e. inl refl) (λ m e z. inr (z, (e, refl))) (λ m e z. inl refl)
 
   -- what a row appends: nothing, or its partner's word where no term had it and the cosine is not 0
   pub appended-cases : (p : List Term → Type 0) (old : List Term) (t : Term) → p []
       → (isZero cos ≡ false → find (partner (t .key)) old ≡ none → p (flippedTerm met partner sin cos t ∷ []))
-      → p (cond (met (t .key)) (appendedTerm met partner sin cos t (find (partner (t .key)) old)) [])
-  appended-cases p old t x y = go (met (t .key)) (find (partner (t .key)) old) refl
-    where
-      lone : find (partner (t .key)) old ≡ none → (c : Bool) → isZero cos ≡ c → p (cond c [] (flippedTerm met partner sin cos t ∷ []))
-      lone e true z = x
-      lone e false z = y z e
-
-      go : (b : Bool) (f : Option Complex64) → find (partner (t .key)) old ≡ f → p (cond b (appendedTerm met partner sin cos t f) [])
-      go false f e = x
-      go true (some d) e = x
-      go true none e = lone e (isZero cos) refl
+      → p (appendedOf met partner sin cos old t)
+  appended-cases p old t x y = row-cases met partner sin cos old t (λ u l. p l) (λ m. x) (λ d m e. x) (λ m e z. x) (λ m e z. y z e)
 
   pub appended-all : (p : Term → Type 0) (old ts : List Term)
       → All (λ t. isZero cos ≡ false → find (partner (t .key)) old ≡ none → p (flippedTerm met partner sin cos t)) ts
@@ -166,34 +148,25 @@ module _ (met : Key → Bool) (partner : Key → Key) (sin cos : Float) where
 
   pub rotated-distinct : (ts : List Term) → All (λ t. partner (partner (t .key)) ≡ t .key) ts → Distinct ts → Distinct (rotated met partner sin cos ts)
   unfolding rotated
-  rotated-distinct ts back D = go (isZero sin)
+  rotated-distinct ts back D =
+      cond-holds Distinct (isZero sin)
+      (same-distinct ts _ (map-keys (scaledMet met partner sin cos) (λ t. cond-key (met (t .key)) (t .key) _ t refl) ts) D)
+      (distinct-append (map (turnedRow met partner sin cos ts) ts) (appendedRows met partner sin cos ts ts)
+      (distinct-map _ (turnedRow met partner sin cos ts) (turned-apart ts) ts (all-and Back (Held ts) ts back (members ts)) D)
+      (distinct-of (appendedRows met partner sin cos ts ts) (appended-apart ts ts back (apart-of ts D)))
+      (all-map (Held ts) _ (turnedRow met partner sin cos ts) ts
+      (λ t x. appended-all (Other (turnedRow met partner sin cos ts t .key)) ts ts (all-every _ ts (λ s. new t s x))) (members ts)))
     where
       -- no row has an appended word
       new : (t s : Term) → Held ts t → isZero cos ≡ false → find (partner (s .key)) ts ≡ none
           → Other (turnedRow met partner sin cos ts t .key) (flippedTerm met partner sin cos s)
       new t s x z e q = ⊎-elim (λ k. x (partner (s .key)) e (sym q ∙ k)) (λ k. true≢false (sym (k .0) ∙ z)) (turned-key ts t)
 
-      go : (z : Bool) → Distinct (cond z (map (scaledMet met partner sin cos) ts) (map (turnedRow met partner sin cos ts) ts ++ appendedRows met partner sin cos ts ts))
-      go true = same-distinct ts _ (map-keys (scaledMet met partner sin cos) (λ t. cond-key (met (t .key)) (t .key) _ t refl) ts) D
-      go false =
-          distinct-append (map (turnedRow met partner sin cos ts) ts) (appendedRows met partner sin cos ts ts)
-          (distinct-map _ (turnedRow met partner sin cos ts) (turned-apart ts) ts (all-and Back (Held ts) ts back (members ts)) D)
-          (distinct-of (appendedRows met partner sin cos ts ts) (appended-apart ts ts back (apart-of ts D)))
-          (all-map (Held ts) _ (turnedRow met partner sin cos ts) ts
-          (λ t x. appended-all (Other (turnedRow met partner sin cos ts t .key)) ts ts (all-every _ ts (λ s. new t s x))) (members ts))
-
   -- a property of terms that a term with the same word has, and one with the partner's
   pub rotated-all : (p : Term → Type 0) (ts : List Term) → ((t u : Term) → t .key ≡ u .key → p t → p u) → ((t u : Term) → partner (t .key) ≡ u .key → p t → p u)
       → All p ts → All p (rotated met partner sin cos ts)
-  unfolding rotated
-  rotated-all p ts same turn x = go (isZero sin)
-    where
-      go : (z : Bool) → All p (cond z (map (scaledMet met partner sin cos) ts) (map (turnedRow met partner sin cos ts) ts ++ appendedRows met partner sin cos ts ts))
-      go true = all-map p p (scaledMet met partner sin cos) ts (λ t h. same t _ (cond-key (met (t .key)) (t .key) _ t refl) h) x
-      go false =
-          all-append p (map (turnedRow met partner sin cos ts) ts) (appendedRows met partner sin cos ts ts)
-          (all-map p p (turnedRow met partner sin cos ts) ts (λ t h. ⊎-elim (λ k. same t _ (sym k) h) (λ k. turn t _ (sym (k .1 .1)) h) (turned-key ts t)) x)
-          (appended-all p ts ts (all-imp p _ ts (λ t h z e. turn t (flippedTerm met partner sin cos t) refl h) x))
+  rotated-all p ts same turn =
+      rotated-keeps met partner sin cos p p ts (λ t h. h) (λ t h m. same t _ refl h) (λ t h m. turn t _ refl h) (λ t d h m e. same t _ refl h)
 
   appended-append : (old ts us : List Term) → appendedRows met partner sin cos old (ts ++ us) ≡ appendedRows met partner sin cos old ts ++ appendedRows met partner sin cos old us
   unfolding appendedRows

@@ -1,9 +1,9 @@
 -- Cases on numbers and on tests. Assumes nothing.
-use mathlib.Core.Path.{_≡_, refl, sym, _∙_}
+use mathlib.Core.Path.{_≡_, refl, sym}
 use mathlib.Core.Logic.{_⊎_, inl, inr}
-use mathlib.Core.Bool.{Bool, true, false, _&&_}
+use mathlib.Core.Bool.{Bool, true, false, _&&_, cond, and-eq-true-iff}
+pub use mathlib.Core.Bool.{and-false}
 use Prim.Native.Nat.{ℕ, _≤_, _<_}
-use native.Mathlib.Omega.{arith}
 use lib.Dec.{leb, ltb, eqb}
 use borrow.Author.Tests.{ltb-true, leb-true, le-leb, ltb-false, eqb-true, eqb-false}
 
@@ -25,25 +25,22 @@ eq-go a b false e = inr (eqb-false a b e)
 pub eq-or-ne : (a b : ℕ) → (a ≡ b) ⊎ (a ≡ b → ⊥)
 eq-or-ne a b = eq-go a b (eqb a b) refl
 
-leb-go : (a b c d : ℕ) (s t : Bool) → leb a b ≡ s → leb c d ≡ t → (a ≤ b → c ≤ d) → (c ≤ d → a ≤ b) → s ≡ t
-leb-go a b c d true true p q f g = refl
-leb-go a b c d true false p q f g = sym (le-leb c d (f (leb-true a b p))) ∙ q
-leb-go a b c d false true p q f g = sym p ∙ le-leb a b (g (leb-true c d q))
-leb-go a b c d false false p q f g = refl
-
-pub leb-iff : (a b c d : ℕ) → (a ≤ b → c ≤ d) → (c ≤ d → a ≤ b) → leb a b ≡ leb c d
-leb-iff a b c d f g = leb-go a b c d (leb a b) (leb c d) refl refl f g
-
 pub and-true : (b c : Bool) → b && c ≡ true → (b ≡ true) × (c ≡ true)
-and-true true c e = (refl, e)
-and-true false c e = (e, absurd (let z : _≡_ {A = ℕ} 0 1 = cc in omega arith))
-
-pub and-false : (b : Bool) → b && false ≡ false
-and-false true = refl
-and-false false = refl
+and-true b c e = and-eq-true-iff b c .0 e
 
 -- two tests that are true together are equal
 pub same-test : (b c : Bool) → (b ≡ true → c ≡ true) → (c ≡ true → b ≡ true) → b ≡ c
 same-test true c f g = sym (f refl)
 same-test false true f g = g refl
 same-test false false f g = refl
+
+pub leb-iff : (a b c d : ℕ) → (a ≤ b → c ≤ d) → (c ≤ d → a ≤ b) → leb a b ≡ leb c d
+leb-iff a b c d f g = same-test (leb a b) (leb c d) (λ e. le-leb c d (f (leb-true a b e))) (λ e. le-leb a b (g (leb-true c d e)))
+
+-- what holds of either of two, and what the test says of it
+pub cond-cases : {A : Type 0} (P : A → Type 0) (b : Bool) {x y : A} → (b ≡ true → P x) → (b ≡ false → P y) → P (cond b x y)
+cond-cases P true p q = p refl
+cond-cases P false p q = q refl
+
+pub cond-holds : {A : Type 0} (P : A → Type 0) (b : Bool) {x y : A} → P x → P y → P (cond b x y)
+cond-holds P b p q = cond-cases P b (λ e. p) (λ e. q)

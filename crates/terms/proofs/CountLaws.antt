@@ -1,5 +1,5 @@
 -- How many terms there are after a step: no more after truncation and merge, at most twice as many after a channel and a rotation. Assumes nothing.
-use mathlib.Core.Bool.{Bool, true, false, cond}
+use mathlib.Core.Bool.{Bool, cond}
 use mathlib.Core.List.{List, [], _∷_, _++_, map}
 use Prim.Native.Nat.{ℕ, _+_, _*_, _≤_}
 use native.Mathlib.Omega.{arith}
@@ -16,6 +16,7 @@ use Rattle.terms.specs.Start.{share, coalesced, merged}
 use Rattle.terms.specs.Rotation.{scaledMet, turnedRow, appendedRows, rotated}
 use Rattle.terms.specs.Channel.{isZLetter, insert, branch, channelBy, channeled}
 use Rattle.terms.specs.Truncation.{isSmall, keptOf}
+use Rattle.terms.proofs.CaseLaws.{cond-holds}
 use Rattle.terms.proofs.DistinctLaws.{addTo-length}
 use Rattle.terms.proofs.BranchLaws.{appended-cases}
 
@@ -25,20 +26,19 @@ unfolding foldl
 fold-count f one [] us = omega arith
 fold-count f one (t ∷ ts) us = omega (arith, fold-count f one ts (f us t), one us t)
 
+-- of two lists, each short enough
+either : (b : Bool) (us vs : List Term) (n : ℕ) → length us ≤ n → length vs ≤ n → length (cond b us vs) ≤ n
+either b us vs n p q = cond-holds (λ l. length l ≤ n) b p q
+
 snoc-count : (b : Bool) (ts us : List Term) (t : Term) → length us ≤ length ts + 1 → length (cond b us (ts ++ (t ∷ []))) ≤ length ts + 1
-snoc-count true ts us t h = h
-snoc-count false ts us t h = omega (arith, length-append ts (t ∷ []))
+snoc-count b ts us t h = either b us (ts ++ (t ∷ [])) (length ts + 1) h (omega (arith, length-append ts (t ∷ [])))
 
 -- ---- truncation and the merge
 
 pub kept-count : (e : Float) (ts : List Term) → length (keptOf e ts) ≤ length ts
 unfolding keptOf
 kept-count e [] = omega arith
-kept-count e (t ∷ ts) = go (isSmall e t) (kept-count e ts)
-  where
-    go : (b : Bool) → length (keptOf e ts) ≤ length ts → length (cond b (keptOf e ts) (t ∷ keptOf e ts)) ≤ length (t ∷ ts)
-    go true h = omega arith
-    go false h = omega arith
+kept-count e (t ∷ ts) = let h = kept-count e ts in either (isSmall e t) (keptOf e ts) (t ∷ keptOf e ts) (length (t ∷ ts)) (omega arith) (omega arith)
 
 pub share-count : (ts : List Term) (t : Term) → length (share ts t) ≤ length ts + 1
 unfolding share
@@ -59,22 +59,17 @@ unfolding insert
 insert-count ts t = snoc-count (isIn (t .key) ts) ts _ t (rw addTo-length (omega arith))
 
 pub branch-count : (w q : ℕ) (f : Float) (ts : List Term) (t : Term) → length (branch w q f ts t) ≤ length ts + 1
-branch-count w q f ts t = go (isZLetter w q (t .key)) _ (insert-count ts _)
-  where
-    go : (b : Bool) (us : List Term) → length us ≤ length ts + 1 → length (cond b us ts) ≤ length ts + 1
-    go true us h = h
-    go false us h = omega arith
+branch-count w q f ts t = either (isZLetter w q (t .key)) _ ts (length ts + 1) (insert-count ts _) (omega arith)
 
 pub channeled-count : (w a b : ℕ) (c : ChannelAction) (ts : List Term) → length (channeled w a b c ts) ≤ 2 * length ts
 unfolding channeled
 channeled-count w a b c ts = by (c .kind)
   where
-    branches : (z : Bool) → length (cond z ts (foldl (branch w a (c .«z_to_identity»)) ts ts)) ≤ 2 * length ts
-    branches true = omega arith
-    branches false = omega (arith, fold-count (branch w a (c .«z_to_identity»)) (branch-count w a (c .«z_to_identity»)) ts ts)
+    f : Float
+    f = c .«z_to_identity»
 
     by : (k : ChannelKind) → length (channelBy k w a b c ts) ≤ 2 * length ts
-    by Local = rw length-map (branches (isZero (c .«z_to_identity»)))
+    by Local = rw length-map (either (isZero f) ts (foldl (branch w a f) ts ts) (2 * length ts) (omega arith) (omega (arith, fold-count (branch w a f) (branch-count w a f) ts ts)))
     by Depolarizing2q = rw length-map (omega arith)
 
 -- ---- a rotation
@@ -89,8 +84,5 @@ module _ (met : Key → Bool) (partner : Key → Key) (sin cos : Float) where
 
   pub rotated-count : (ts : List Term) → length (rotated met partner sin cos ts) ≤ 2 * length ts
   unfolding rotated
-  rotated-count ts = go (isZero sin)
-    where
-      go : (z : Bool) → length (cond z (map (scaledMet met partner sin cos) ts) (map (turnedRow met partner sin cos ts) ts ++ appendedRows met partner sin cos ts ts)) ≤ 2 * length ts
-      go true = rw length-map (omega arith)
-      go false = simp (length-append, length-map) (omega (arith, appended-count ts ts))
+  rotated-count ts =
+      either (isZero sin) (map (scaledMet met partner sin cos) ts) (map (turnedRow met partner sin cos ts) ts ++ appendedRows met partner sin cos ts ts) (2 * length ts) (rw length-map (omega arith)) (simp (length-append, length-map) (omega (arith, appended-count ts ts)))

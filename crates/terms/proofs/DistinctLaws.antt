@@ -7,23 +7,23 @@ use native.Mathlib.Nat.{le-of-suc-le-suc, not-suc-le-zero, suc-inj}
 use native.Mathlib.Omega.{arith}
 use lib.ListN.{length, getD, length-map, List·getD-map}
 use lib.Ieee.{Float}
-use Rattle.numbers.specs.Tests.{isZero}
 use Rattle.words.specs.declared.Gate.{Gate}
-use Rattle.words.specs.Keys.{Key, sameKey, hasLetter, flipAt, zAt, Words}
+use Rattle.words.specs.Keys.{Key, sameKey, zAt, Words}
 use Rattle.words.specs.Gates.{Targets}
 use Rattle.words.proofs.KeyLaws.{sameKey-refl, flipAt-length, flipAt-words}
 use Rattle.words.proofs.GateLaws.{conjKey-length, conjKey-words}
 use Rattle.words.proofs.InverseLaws.{conjKey-injective}
 use Rattle.terms.specs.declared.Complex64.{Complex64}
 use Rattle.terms.specs.declared.ChannelAction.{ChannelAction}
-use Rattle.terms.specs.declared.ChannelKind.{ChannelKind}
-use Rattle.terms.specs.declared.ChannelKind.the-variants.{Local, Depolarizing2q}
-use Rattle.terms.specs.Coefficient.{none64, plusOf, scaledOf}
-use Rattle.terms.specs.Lists.{foldl, All}
+use Rattle.terms.specs.Coefficient.{none64}
+use Rattle.terms.specs.Lists.{All}
 use Rattle.terms.specs.Term.{Term, term, noTerm, OnWidth, Distinct, isIn, addTo, conjugated}
 use Rattle.terms.specs.Start.{share, coalesced, merged}
-use Rattle.terms.specs.Channel.{isZLetter, insert, branch, withBranches, scaledLetter, scaledLocal, scaledEither, channelBy, channeled}
+use Rattle.terms.specs.Channel.{insert, channeled}
 use Rattle.terms.specs.Truncation.{isSmall, keptOf}
+use Rattle.terms.proofs.CaseLaws.{cond-cases, cond-holds}
+use Rattle.terms.proofs.NearLaws.{cond-both}
+use Rattle.terms.proofs.StepLaws.{merged-keeps, channel-keeps, channel-all}
 use Rattle.terms.proofs.AllLaws.{all-at, all-of, all-every, all-imp, all-append, all-map, fold-keeps}
 
 -- ---- distinct words, one term after the other
@@ -87,7 +87,7 @@ keysOf ts = map (λ t. t .key) ts
 keys-length : (ts us : List Term) → keysOf ts ≡ keysOf us → length us ≡ length ts
 keys-length ts us e = sym (length-map us (λ t. t .key)) ∙ ap length (sym e) ∙ length-map ts (λ t. t .key)
 
-keys-at : (ts us : List Term) → keysOf ts ≡ keysOf us → (i : ℕ) → getD ts i noTerm .key ≡ getD us i noTerm .key
+pub keys-at : (ts us : List Term) → keysOf ts ≡ keysOf us → (i : ℕ) → getD ts i noTerm .key ≡ getD us i noTerm .key
 keys-at ts us e i =
     sym (List·getD-map (λ (t : Term). t .key) ts i noTerm) ∙ ap (λ (ks : List Key). getD ks i []) e ∙ List·getD-map (λ (t : Term). t .key) us i noTerm
 
@@ -99,12 +99,6 @@ same-distinct ts us e D i j hi hj q =
 
 pub width-key : (w : ℕ) (t u : Term) → t .key ≡ u .key → OnWidth w t → OnWidth w u
 width-key w t u e x = record { long = ap length (sym e) ∙ x .long; words = subst Words e (x .words) }
-
-pub same-width : (w : ℕ) (ts us : List Term) → keysOf ts ≡ keysOf us → All (OnWidth w) ts → All (OnWidth w) us
-same-width w ts us e x =
-    let long = keys-length ts us e in
-    all-of (OnWidth w) us noTerm
-    (λ i h. width-key w (getD ts i noTerm) (getD us i noTerm) (keys-at ts us e i) (all-at (OnWidth w) ts i noTerm (omega arith) x))
 
 -- a map that keeps the word of each term
 pub map-keys : (f : Term → Term) → ((t : Term) → t .key ≡ f t .key) → (ts : List Term) → keysOf ts ≡ keysOf (map f ts)
@@ -118,11 +112,8 @@ cond-key false k c t e = refl
 pub addTo-keys : (k : Key) (d : Complex64) (ts : List Term) → keysOf ts ≡ keysOf (addTo k d ts)
 unfolding addTo
 addTo-keys k d [] = refl
-addTo-keys k d (t ∷ ts) = go (sameKey k (t .key)) (addTo-keys k d ts)
-  where
-    go : (b : Bool) → keysOf ts ≡ keysOf (addTo k d ts) → keysOf (t ∷ ts) ≡ keysOf (cond b (term (t .key) (plusOf (t .coeff) d) ∷ ts) (t ∷ addTo k d ts))
-    go true e = refl
-    go false e = ap (λ (ks : List Key). t .key ∷ ks) e
+addTo-keys k d (t ∷ ts) =
+    cond-holds (λ us. keysOf (t ∷ ts) ≡ keysOf us) (sameKey k (t .key)) refl (ap (λ (ks : List Key). t .key ∷ ks) (addTo-keys k d ts))
 
 pub addTo-length : (k : Key) (d : Complex64) (ts : List Term) → length (addTo k d ts) ≡ length ts
 addTo-length k d ts = keys-length ts (addTo k d ts) (addTo-keys k d ts)
@@ -146,18 +137,7 @@ abbrev added : List Term → Term → List Term
 added ts t = cond (isIn (t .key) ts) ts (ts ++ (t ∷ []))
 
 added-distinct : (ts : List Term) (t : Term) → Distinct ts → Distinct (added ts t)
-added-distinct ts t D = go (isIn (t .key) ts) refl
-  where
-    go : (b : Bool) → isIn (t .key) ts ≡ b → Distinct (cond b ts (ts ++ (t ∷ [])))
-    go true e = D
-    go false e = distinct-snoc ts t D (not-in (t .key) ts e)
-
-added-width : (w : ℕ) (ts : List Term) (t : Term) → OnWidth w t → All (OnWidth w) ts → All (OnWidth w) (added ts t)
-added-width w ts t a x = go (isIn (t .key) ts)
-  where
-    go : (b : Bool) → All (OnWidth w) (cond b ts (ts ++ (t ∷ [])))
-    go true = x
-    go false = all-append (OnWidth w) ts (t ∷ []) x (a, tt)
+added-distinct ts t D = cond-cases Distinct (isIn (t .key) ts) (λ e. D) (λ e. distinct-snoc ts t D (not-in (t .key) ts e))
 
 -- ---- a gate
 
@@ -178,20 +158,12 @@ conjugated-width g w a b ts x =
 pub kept-all : (p : Term → Type 0) (e : Float) (ts : List Term) → All p ts → All p (keptOf e ts)
 unfolding keptOf
 kept-all p e [] x = tt
-kept-all p e (t ∷ ts) x = go (isSmall e t) (kept-all p e ts (x .1))
-  where
-    go : (b : Bool) → All p (keptOf e ts) → All p (cond b (keptOf e ts) (t ∷ keptOf e ts))
-    go true y = y
-    go false y = (x .0, y)
+kept-all p e (t ∷ ts) x = let r = kept-all p e ts (x .1) in cond-holds (All p) (isSmall e t) r (x .0, r)
 
 kept-apart : (e : Float) (ts : List Term) → Apart ts → Apart (keptOf e ts)
 unfolding keptOf
 kept-apart e [] x = tt
-kept-apart e (t ∷ ts) x = go (isSmall e t) (kept-apart e ts (x .1))
-  where
-    go : (b : Bool) → Apart (keptOf e ts) → Apart (cond b (keptOf e ts) (t ∷ keptOf e ts))
-    go true y = y
-    go false y = (kept-all (Other (t .key)) e ts (x .0), y)
+kept-apart e (t ∷ ts) x = let r = kept-apart e ts (x .1) in cond-holds Apart (isSmall e t) r (kept-all (Other (t .key)) e ts (x .0), r)
 
 pub kept-distinct : (e : Float) (ts : List Term) → Distinct ts → Distinct (keptOf e ts)
 kept-distinct e ts D = distinct-of (keptOf e ts) (kept-apart e ts (apart-of ts D))
@@ -205,16 +177,8 @@ share-keys ts t = addTo-keys (t .key) (t .coeff) (added ts (term (t .key) none64
 share-distinct : (ts : List Term) (t : Term) → Distinct ts → Distinct (share ts t)
 share-distinct ts t D = same-distinct (added ts (term (t .key) none64)) (share ts t) (share-keys ts t) (added-distinct ts (term (t .key) none64) D)
 
-share-width : (w : ℕ) (ts : List Term) (t : Term) → OnWidth w t → All (OnWidth w) ts → All (OnWidth w) (share ts t)
-share-width w ts t a x =
-    let u = term (t .key) none64 in
-    same-width w (added ts u) (share ts t) (share-keys ts t) (added-width w ts u (width-key w t u refl a) x)
-
 pub coalesced-distinct : (ts : List Term) → Distinct (coalesced ts)
 coalesced-distinct ts = fold-keeps (λ t. Unit {0}) Distinct share (λ us t x D. share-distinct us t D) ts [] (all-every _ ts (λ t. tt)) (distinct-of [] tt)
-
-pub coalesced-width : (w : ℕ) (ts : List Term) → All (OnWidth w) ts → All (OnWidth w) (coalesced ts)
-coalesced-width w ts x = fold-keeps (OnWidth w) (All (OnWidth w)) share (λ us t a y. share-width w us t a y) ts [] x tt
 
 pub merged-distinct : (ts : List Term) → Distinct (merged ts)
 merged-distinct [] = distinct-of [] tt
@@ -222,51 +186,23 @@ merged-distinct (t ∷ []) = distinct-of (t ∷ []) (tt, tt)
 merged-distinct (t ∷ u ∷ ts) = coalesced-distinct (t ∷ u ∷ ts)
 
 pub merged-width : (w : ℕ) (ts : List Term) → All (OnWidth w) ts → All (OnWidth w) (merged ts)
-merged-width w [] x = x
-merged-width w (t ∷ []) x = x
-merged-width w (t ∷ u ∷ ts) x = coalesced-width w (t ∷ u ∷ ts) x
+merged-width w = merged-keeps (OnWidth w) (λ k c d x y. width-key w _ _ refl x) (λ t x. width-key w _ _ refl x)
 
 -- ---- a channel
 
 insert-keys : (ts : List Term) (t : Term) → keysOf (added ts t) ≡ keysOf (insert ts t)
 unfolding insert
-insert-keys ts t = go (isIn (t .key) ts)
-  where
-    go : (b : Bool) → keysOf (cond b ts (ts ++ (t ∷ []))) ≡ keysOf (cond b (addTo (t .key) (t .coeff) ts) (ts ++ (t ∷ [])))
-    go true = addTo-keys (t .key) (t .coeff) ts
-    go false = refl
+insert-keys ts t = cond-both (λ us vs. keysOf us ≡ keysOf vs) (isIn (t .key) ts) (addTo-keys (t .key) (t .coeff) ts) refl
 
 insert-distinct : (ts : List Term) (t : Term) → Distinct ts → Distinct (insert ts t)
 insert-distinct ts t D = same-distinct (added ts t) (insert ts t) (insert-keys ts t) (added-distinct ts t D)
 
-insert-width : (w : ℕ) (ts : List Term) (t : Term) → OnWidth w t → All (OnWidth w) ts → All (OnWidth w) (insert ts t)
-insert-width w ts t a x = same-width w (added ts t) (insert ts t) (insert-keys ts t) (added-width w ts t a x)
-
--- what the branches and a map that keeps words keep, a channel keeps
-module _ (w a b : ℕ) (c : ChannelAction) (p : List Term → Type 0) (same : (ts us : List Term) → keysOf ts ≡ keysOf us → p ts → p us) where
-  channel-by : (k : ChannelKind) (ts : List Term) → p (withBranches w a (c .«z_to_identity») ts) → p ts → p (channelBy k w a b c ts)
-  unfolding scaledLocal
-  channel-by Local ts x y = same _ _ (map-keys (scaledLetter w a (c .lambda)) (λ t. cond-key (hasLetter w (t .key) a) (t .key) _ t refl) (withBranches w a (c .«z_to_identity») ts)) x
-  channel-by Depolarizing2q ts x y = same _ _ (map-keys (scaledEither w a b _) (λ t. cond-key (hasLetter w (t .key) a || hasLetter w (t .key) b) (t .key) _ t refl) ts) y
-
-  channel-keeps : (q : Term → Type 0) → ((ts : List Term) (t : Term) → q t → p ts → p (insert ts (term (flipAt (t .key) (zAt w a)) (scaledOf (c .«z_to_identity») (t .coeff)))))
-      → (ts : List Term) → All q ts → p ts → p (channeled w a b c ts)
-  unfolding channeled
-  channel-keeps q step ts x y = channel-by (c .kind) ts (go (isZero (c .«z_to_identity»))) y
-    where
-      one : (us : List Term) (t : Term) → q t → p us → (z : Bool) → p (cond z (insert us (term (flipAt (t .key) (zAt w a)) (scaledOf (c .«z_to_identity») (t .coeff)))) us)
-      one us t h y true = step us t h y
-      one us t h y false = y
-
-      go : (z : Bool) → p (cond z ts (foldl (branch w a (c .«z_to_identity»)) ts ts))
-      go true = y
-      go false = fold-keeps q p (branch w a (c .«z_to_identity»)) (λ us t h y. one us t h y (isZLetter w a (t .key))) ts ts x y
-
 pub channeled-distinct : (w a b : ℕ) (c : ChannelAction) (ts : List Term) → Distinct ts → Distinct (channeled w a b c ts)
-channeled-distinct w a b c ts D =
-    channel-keeps w a b c Distinct same-distinct (λ t. Unit {0}) (λ us t h E. insert-distinct us _ E) ts (all-every _ ts (λ t. tt)) D
+channeled-distinct w a b c ts =
+    channel-keeps w a b c Distinct (λ t. Unit {0}) (λ us t e h. insert-distinct us _)
+    (λ met by us. same-distinct us _ (map-keys _ (λ t. cond-key (met t) (t .key) _ t refl) us)) ts (all-every _ ts (λ t. tt))
 
 pub channeled-width : (w a b : ℕ) (c : ChannelAction) (ts : List Term) → All (OnWidth w) ts → All (OnWidth w) (channeled w a b c ts)
-channeled-width w a b c ts x =
-    channel-keeps w a b c (All (OnWidth w)) (same-width w) (OnWidth w)
-    (λ us t h y. insert-width w us _ (record { long = flipAt-length (t .key) (zAt w a) ∙ h .long; words = flipAt-words (t .key) (zAt w a) (h .words) }) y) ts x x
+channeled-width w a b c =
+    channel-all w a b c (OnWidth w) (OnWidth w) (λ k c d x y. width-key w _ _ refl x) (λ f t x. width-key w _ _ refl x)
+    (λ t e h. record { long = flipAt-length (t .key) (zAt w a) ∙ h .long; words = flipAt-words (t .key) (zAt w a) (h .words) }) (λ t h. h)

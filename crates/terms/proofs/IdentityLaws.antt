@@ -17,22 +17,10 @@ use Rattle.terms.specs.Coefficient.{scaledOf, plusOf}
 use Rattle.terms.specs.Term.{Term, term, noTerm, isIn, addTo}
 use Rattle.terms.specs.Channel.{isZLetter, insert, branch, branchesTo}
 use Rattle.terms.proofs.CaseLaws.{and-true}
-use Rattle.terms.proofs.DistinctLaws.{addTo-length}
+use Rattle.terms.proofs.DistinctLaws.{keys-at, addTo-keys, addTo-length}
 use Rattle.terms.proofs.ListLaws.{fold-snoc}
 
--- ---- what is added to one word changes no other term, and no key
-
-added-key : (k : Key) (d : Complex64) (ts : List Term) (j : ℕ) → getD (addTo k d ts) j noTerm .key ≡ getD ts j noTerm .key
-unfolding addTo
-added-key k d [] j = refl
-added-key k d (t ∷ ts) j = go (sameKey k (t .key)) j (added-key k d ts)
-  where
-    go : (b : Bool) (j : ℕ) → ((j : ℕ) → getD (addTo k d ts) j noTerm .key ≡ getD ts j noTerm .key)
-        → getD (cond b (term (t .key) (plusOf (t .coeff) d) ∷ ts) (t ∷ addTo k d ts)) j noTerm .key ≡ getD (t ∷ ts) j noTerm .key
-    go true zero ih = refl
-    go true (suc j) ih = refl
-    go false zero ih = refl
-    go false (suc j) ih = ih j
+-- ---- what is added to one word changes no other term
 
 added-other : (k : Key) (d : Complex64) (ts : List Term) (j : ℕ) → sameKey k (getD ts j noTerm .key) ≡ false → getD (addTo k d ts) j noTerm ≡ getD ts j noTerm
 unfolding addTo
@@ -85,7 +73,7 @@ module _ (w q : ℕ) (f : Float) where
       go k d true true e = (
         omega (arith, addTo-length k d us),
         λ j h. record {
-          key = added-key k d us j;
+          key = sym (keys-at us (addTo k d us) (addTo-keys k d us) j);
           whole = λ x. added-other k d us j (sameKey-ne k (getD us j noTerm .key) (λ p. false≢true (sym (e refl) ∙ ap (λ (l : Key). bitAt l (zAt w q)) p ∙ x)));
         },
       )

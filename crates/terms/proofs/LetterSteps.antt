@@ -3,7 +3,7 @@ use Prim.Native.Nat.{ℕ, _*_, _<_}
 use mathlib.Core.Path.{_≡_, refl, sym, ap, ap₂, _∙_}
 use mathlib.Core.Bool.{Bool, true, false, _&&_, _||_, cond, false≢true}
 use mathlib.Core.Logic.{_≢_}
-use mathlib.Core.List.{List, [], _∷_, _++_, map, append-nil}
+use mathlib.Core.List.{List, [], _∷_, map, append-nil}
 use lib.ListN.{getD}
 use lib.Ieee.{Float, nan}
 use Rattle.numbers.specs.Tests.{isZero}
@@ -23,6 +23,7 @@ use Rattle.terms.specs.Term.{Term, term, conjugated}
 use Rattle.terms.specs.Rotation.{metBy, partnerBy, scaledMet, turnedRow, appendedRows, rotated}
 use Rattle.terms.specs.Channel.{branch, scaledLetter, scaledLocal, scaledEither, channelBy, channeled}
 use Rattle.terms.specs.Truncation.{keptOf}
+use Rattle.terms.proofs.CaseLaws.{cond-holds}
 use Rattle.terms.proofs.AllLaws.{all-imp, all-and}
 use Rattle.terms.proofs.TargetLaws.{gateTargets, axisTargets, kindTargets}
 use Rattle.terms.proofs.KeySteps.{keys-kept, keys-gate, keys-rotated, keys-channeled}
@@ -99,11 +100,9 @@ module _ (met : Key → Bool) (partner : Key → Key) (sin cos : Float) where
 
   unmet-rows : (ts : List Term) → All Unmet ts → rotated met partner sin cos ts ≡ ts
   unfolding rotated
-  unmet-rows ts h = go (isZero sin)
-    where
-      go : (b : Bool) → cond b (map (scaledMet met partner sin cos) ts) (map (turnedRow met partner sin cos ts) ts ++ appendedRows met partner sin cos ts ts) ≡ ts
-      go true = map-same Unmet (scaledMet met partner sin cos) ts (λ t e. rw e) h
-      go false = rw (map-same Unmet (turnedRow met partner sin cos ts) ts (λ t e. rw e) h, unmet-appended ts ts h) (append-nil ts)
+  unmet-rows ts h =
+      cond-holds (λ us. us ≡ ts) (isZero sin) (map-same Unmet (scaledMet met partner sin cos) ts (λ t e. rw e) h)
+      (rw (map-same Unmet (turnedRow met partner sin cos ts) ts (λ t e. rw e) h, unmet-appended ts ts h) (append-nil ts))
 
 module _ (w : ℕ) where
   bare-axis : (x : Axis) (k : Key) → Bare w k (axisTargets x) → metBy x k ≡ false
@@ -125,12 +124,8 @@ module _ (w : ℕ) where
       go Local p =
           let f = c .«z_to_identity» in
           let P : Term → Type 0 = λ t. Bare w (t .key) (a ∷ []) in
-          ap (map (scaledLetter w a (c .lambda))) (branches (isZero f) (fold-same P (branch w a f) ts ts (λ t e. rw (e .0 .0, e .0 .1)) p))
+          ap (map (scaledLetter w a (c .lambda))) (cond-holds (λ us. us ≡ ts) (isZero f) refl (fold-same P (branch w a f) ts ts (λ t e. rw (e .0 .0, e .0 .1)) p))
           ∙ map-same P (scaledLetter w a (c .lambda)) ts (λ t e. rw (e .0 .0, e .0 .1)) p
-        where
-          branches : (z : Bool) {us : List Term} → us ≡ ts → cond z ts us ≡ ts
-          branches true e = refl
-          branches false e = e
       go Depolarizing2q p = map-same (λ (t : Term). Bare w (t .key) (a ∷ b ∷ [])) (scaledEither w a b (getD (c .lambda) 0 nan)) ts
           (λ t e. rw (e .0 .0, e .0 .1, e .1 .0 .0, e .1 .0 .1)) p
 

@@ -4,6 +4,7 @@ pub mod ListLaws
 pub mod FirstLaws
 pub mod FoundLaws
 pub mod AllLaws
+pub mod StepLaws
 pub mod KeySteps
 pub mod DistinctLaws
 pub mod BranchLaws

@@ -4,7 +4,7 @@ use mathlib.Core.List.{List, [], _∷_, _++_, map}
 use Prim.Native.Nat.{ℕ, zero, suc, _+_, _<_, zero-le, suc-le-suc}
 use native.Mathlib.Nat.{le-of-suc-le-suc, not-suc-le-zero, suc-inj, suc-ne-zero}
 use native.Mathlib.Omega.{arith}
-use lib.ListN.{length, getD, set}
+use lib.ListN.{length, getD, set, drop}
 use native.Mathlib.Numerals.{add-one}
 use Rattle.terms.specs.Lists.{tab, foldl, mapTo}
 
@@ -43,6 +43,13 @@ module _ {A : Type 0} where
   unfolding tab
   map-tab zero f g = refl
   map-tab (suc n) f g = ap (λ (l : List _). g (f zero) ∷ l) (map-tab n (λ i. f (suc i)) g)
+
+  -- one turn of a loop that folds the elements of a list
+  pub fold-step : {S : Type 0} (f : S → A → S) (s : S) (l : List A) (i : ℕ) (d : A) → i < length l → foldl f s (drop i l) ≡ foldl f (f s (getD l i d)) (drop (suc i) l)
+  unfolding foldl
+  fold-step f s [] i d h = absurd (not-suc-le-zero h)
+  fold-step f s (x ∷ l) zero d h = refl
+  fold-step f s (x ∷ l) (suc i) d h = fold-step f s l i d (le-of-suc-le-suc h)
 
   -- ---- a loop's turn
 

@@ -3,14 +3,14 @@ use Prim.Native.Nat.{ℕ, zero, suc, _+_, _*_, _%_, _<_}
 use mathlib.Core.Path.{_≡_, refl, sym, ap, ap₂, _∙_, subst, subst₂, subst⁻¹}
 use mathlib.Core.Bool.{Bool, true, false, not, cond, _&&_, _||_, false≢true}
 use mathlib.Core.Logic.{_≢_}
-use mathlib.Core.List.{List, [], _∷_, _++_, map}
+use mathlib.Core.List.{List, [], _∷_, map}
 use mathlib.Core.Option.{Option, none, some}
 use native.Mathlib.Nat.{zero-add, zero-mul, not-suc-le-zero}
 use native.Mathlib.Omega.{arith}
 use native.Mathlib.Decide.{ℕ-discrete}
-use lib.Dec.{T, ltb, eqb, eqb→eq, eqb·suc-zero}
-use borrow.Author.Tests.{ltb-true, eqb-true, eqb-false}
-use lib.ListN.{length, getD}
+use lib.Dec.{T, eqb, eqb→eq, eqb·suc-zero}
+use borrow.Author.Tests.{ltb-true, eqb-true, eqb-false, not-true}
+use lib.ListN.{length}
 use lib.Ieee.{Float, nan, inf, fin, binary64, neg, add, mul, eq, ofBits, round, up, down, unlike}
 use Rattle.numbers.specs.Constants.{zero64}
 use Rattle.numbers.specs.Tests.{isFinite, isZero}
@@ -18,28 +18,29 @@ use Rattle.numbers.specs.Close.{_≈_, same, zeros}
 use Rattle.numbers.proofs.ValueLaws.{round-zero}
 use Rattle.numbers.proofs.CloseLaws.{≈-trans, finite-≈, is-zero-≈, neg-≈, mul-≈, add-≈}
 use Rattle.numbers.proofs.TestLaws.{holds}
-use Rattle.words.specs.Keys.{Key, _⊕_, bitAt, flipAt, zAt, sameKey, hasLetter}
+use Rattle.words.specs.Keys.{Key, _⊕_, bitAt, flipAt, zAt, sameKey}
 use Rattle.words.specs.declared.Bits as B
 use Rattle.words.specs.declared.Gate.{Gate}
-use Rattle.words.specs.Gates.{hasTwoTargets, mk, conjBits, conjPhase, bitsAt, flipWhen, moved, conjKey, Targets}
+use Rattle.words.specs.Gates.{hasTwoTargets, mk, conjBits, conjPhase, bitsAt, moved, conjKey, Targets}
 use Rattle.words.proofs.EveryGate as E
 use Rattle.words.proofs.KeyLaws.{flipAt-length, bitAt-flip-other, sameKey-eq}
-use Rattle.words.proofs.GateLaws.{xor-back, flipWhen-same, flipWhen-other, flipWhen-length, moved-first}
-use Rattle.terms.proofs.CaseLaws.{and-true}
-use Rattle.terms.proofs.AllLaws.{all-imp, all-and, all-append, all-map, fold-keeps}
+use Rattle.words.proofs.GateLaws.{changed, changed-length, changed-x, changed-z, own-x, own-z, xor-back, moved-first}
+use Rattle.terms.proofs.CaseLaws.{and-true, cond-cases, cond-holds}
+use Rattle.terms.proofs.StepLaws.{merged-keeps, rotated-keeps, channel-all}
+use Rattle.terms.proofs.DistinctLaws.{kept-all}
+use Rattle.terms.proofs.AxisLaws.{on-both}
+use Rattle.terms.proofs.AllLaws.{all-and, all-map}
 use Rattle.terms.specs.declared.Complex64.{Complex64}
 use Rattle.terms.specs.declared.Axis.{Axis}
 use Rattle.terms.specs.declared.Axis.the-variants.{Z, Zz}
-use Rattle.terms.specs.declared.ChannelKind.{ChannelKind}
-use Rattle.terms.specs.declared.ChannelKind.the-variants.{Local, Depolarizing2q}
 use Rattle.terms.specs.declared.ChannelAction.{ChannelAction}
-use Rattle.terms.specs.Coefficient.{complex, none64, scaledOf, flippedOf, plusOf, turnedOf, finiteOf}
-use Rattle.terms.specs.Lists.{foldl, All}
-use Rattle.terms.specs.Term.{Term, term, OnWidth, find, isIn, addTo, conjugated, allFinite}
-use Rattle.terms.specs.Start.{countY, ysOf, termOf, share, merged}
-use Rattle.terms.specs.Rotation.{metBy, partnerBy, onKey, scaledMet, flippedTerm, turnedTerm, appendedTerm, turnedRow, appendedRows, rotated}
-use Rattle.terms.specs.Channel.{letterIndex, insert, branch, withBranches, scaledLetter, scaledLocal, scaledEither, channelBy, channeled}
-use Rattle.terms.specs.Truncation.{isSmall, keptOf}
+use Rattle.terms.specs.Coefficient.{complex, scaledOf, flippedOf, plusOf, turnedOf, finiteOf}
+use Rattle.terms.specs.Lists.{All}
+use Rattle.terms.specs.Term.{Term, term, OnWidth, find, conjugated, allFinite}
+use Rattle.terms.specs.Start.{countY, ysOf, termOf, merged}
+use Rattle.terms.specs.Rotation.{metBy, partnerBy, onKey, rotated}
+use Rattle.terms.specs.Channel.{isZLetter, channeled}
+use Rattle.terms.specs.Truncation.{keptOf}
 use Rattle.terms.specs.Parity.{isOdd, Parted}
 
 -- ---- odd and even
@@ -203,30 +204,15 @@ module _ (w : ℕ) (k l : Key) where
 
 -- ---- the bits at a qubit changed
 
-abbrev changed : ℕ → ℕ → Bool → Bool → Key → Key
-changed w q x z k = flipWhen z (zAt w q) (flipWhen x q k)
-
 module _ (w q : ℕ) (x z : Bool) (k : Key) where
-  changed-x : (r : ℕ) → r < 64 * w → r ≢ q → bitAt (changed w q x z k) r ≡ bitAt k r
-  changed-x r h n = flipWhen-other z (zAt w q) (flipWhen x q k) r (λ e. omega arith) ∙ flipWhen-other x q k r n
-
-  changed-z : (r : ℕ) → q < 64 * w → r ≢ q → bitAt (changed w q x z k) (zAt w r) ≡ bitAt k (zAt w r)
-  changed-z r h n = flipWhen-other z (zAt w q) (flipWhen x q k) (zAt w r) (λ e. n (omega arith)) ∙ flipWhen-other x q k (zAt w r) (λ e. omega arith)
-
-  changed-length : length (changed w q x z k) ≡ length k
-  changed-length = flipWhen-length z (zAt w q) (flipWhen x q k) ∙ flipWhen-length x q k
-
   -- the letter there before and after, from the bits u and v
   changed-ys : {u v : Bool} → q < 64 * w → length k ≡ 2 * w → bitAt k q ≡ u → bitAt k (zAt w q) ≡ v
       → ysOf w (changed w q x z k) + one (u && v) ≡ ysOf w k + one ((u ⊕ x) && (v ⊕ z))
   changed-ys h long eu ev =
       subst₂ (λ (u v : Bool). ysOf w (changed w q x z k) + one (u && v) ≡ ysOf w k + one ((u ⊕ x) && (v ⊕ z))) eu ev
-      (ys-but w k (changed w q x z k) (64 * w) q h (λ r i n. sym (ap₂ _&&_ (changed-x r i n) (changed-z r h n)))
+      (ys-but w k (changed w q x z k) (64 * w) q h (λ r i n. sym (ap₂ _&&_ (changed-x w q x z k r i n) (changed-z w q x z k r h n)))
       ∙ ap (λ (y : Bool). ysOf w k + one y)
-      (ap₂ _&&_
-      (flipWhen-other z (zAt w q) (flipWhen x q k) q (λ e. omega arith) ∙ flipWhen-same x q k (omega arith))
-      (flipWhen-same z (zAt w q) (flipWhen x q k) (omega (arith, flipWhen-length x q k))
-      ∙ ap (λ (b : Bool). b ⊕ z) (flipWhen-other x q k (zAt w q) (λ e. omega arith)))))
+      (ap₂ _&&_ (own-x w q x z k h long) (own-z w q x z k h long)))
 
 -- ---- a gate
 
@@ -283,35 +269,6 @@ module _ (g : Gate) (w a b : ℕ) (k : Key) (at : Targets g w a b) (long : lengt
           let y : one (s .xb && s .zb) ≡ one (t .xb && t .zb) = ap₂ (λ (x z : Bool). one (x && z)) x z in
           omega (arith, at-first, ap (ysOf w) (moved-first s t w a b k x z), turns g s)
 
--- ---- sums of coefficients of one word
-
-module _ (P : Term → Type 0) (plus : (k : Key) (c d : Complex64) → P (term k c) → P (term k d) → P (term k (plusOf c d))) where
-  addTo-keeps : (k : Key) (d : Complex64) (ts : List Term) → P (term k d) → All P ts → All P (addTo k d ts)
-  unfolding addTo
-  addTo-keeps k d [] p h = tt
-  addTo-keeps k d (t ∷ ts) p h = go (sameKey k (t .key)) refl (addTo-keeps k d ts p (h .1))
-    where
-      go : (b : Bool) → sameKey k (t .key) ≡ b → All P (addTo k d ts) → All P (cond b (term (t .key) (plusOf (t .coeff) d) ∷ ts) (t ∷ addTo k d ts))
-      go true e r = (plus (t .key) (t .coeff) d (h .0) (subst (λ (l : Key). P (term l d)) (sameKey-eq k (t .key) e) p), h .1)
-      go false e r = (h .0, r)
-
-  insert-keeps : (ts : List Term) (t : Term) → P t → All P ts → All P (insert ts t)
-  unfolding insert
-  insert-keeps ts t p h = go (isIn (t .key) ts)
-    where
-      go : (b : Bool) → All P (cond b (addTo (t .key) (t .coeff) ts) (ts ++ (t ∷ [])))
-      go true = addTo-keeps (t .key) (t .coeff) ts p h
-      go false = all-append P ts (t ∷ []) h (p, tt)
-
-  -- from 0
-  share-keeps : ((k : Key) → P (term k none64)) → (ts : List Term) (t : Term) → P t → All P ts → All P (share ts t)
-  unfolding share
-  share-keeps zeroes ts t p h = addTo-keeps (t .key) (t .coeff) (cond (isIn (t .key) ts) ts (ts ++ (term (t .key) none64 ∷ []))) p (go (isIn (t .key) ts))
-    where
-      go : (b : Bool) → All P (cond b ts (ts ++ (term (t .key) none64 ∷ [])))
-      go true = h
-      go false = all-append P ts (term (t .key) none64 ∷ []) h (zeroes (t .key), tt)
-
 -- ---- the start
 
 -- for every weight
@@ -324,19 +281,8 @@ abbrev Ready : ℕ → Term → Type 0
 Ready w t = OnWidth w t × Parted w t
 
 module _ (w : ℕ) where
-  none-parted : (k : Key) → Parted w (term k none64)
-  none-parted k = go (isOdd (ysOf w k))
-    where
-      go : (b : Bool) → Half b none64
-      go true = same
-      go false = same
-
   pub merged-parted : (ts : List Term) → All (Parted w) ts → All (Parted w) (merged ts)
-  merged-parted [] h = tt
-  merged-parted (t ∷ []) h = h
-  merged-parted (t ∷ u ∷ ts) h =
-      fold-keeps (Parted w) (All (Parted w)) share
-      (share-keeps (Parted w) (λ k c d. half-plus (isOdd (ysOf w k)) c d) none-parted) (t ∷ u ∷ ts) [] h tt
+  merged-parted = merged-keeps (Parted w) (λ k c d. half-plus (isOdd (ysOf w k)) c d) (λ t p. cond-holds (λ x. x ≈ zero64) (isOdd (ysOf w (t .key))) same same)
 
   -- ---- gates and the drop of small terms
 
@@ -353,13 +299,7 @@ module _ (w : ℕ) where
           (half-turned (ysOf w (t .key)) n (t .coeff) (h .1))
 
   pub kept-parted : (e : Float) (ts : List Term) → All (Parted w) ts → All (Parted w) (keptOf e ts)
-  unfolding keptOf
-  kept-parted e [] h = tt
-  kept-parted e (t ∷ ts) h = go (isSmall e t) (kept-parted e ts (h .1))
-    where
-      go : (b : Bool) → All (Parted w) (keptOf e ts) → All (Parted w) (cond b (keptOf e ts) (t ∷ keptOf e ts))
-      go true r = r
-      go false r = (h .0, r)
+  kept-parted = kept-all (Parted w)
 
 -- ---- a product with a zero is a zero or is not finite, so after a step that multiplies a term is parted if it is finite
 
@@ -371,13 +311,11 @@ unfolding allFinite
 when-finite w [] e h = tt
 when-finite w (t ∷ ts) e h = let f = and-true (finiteOf (t .coeff)) (allFinite ts) e in (h .0 (f .0), when-finite w ts (f .1) (h .1))
 
-parted-when : (w : ℕ) (ts : List Term) → All (Parted w) ts → All (WhenFinite w) ts
-parted-when w ts h = all-imp (Parted w) (WhenFinite w) ts (λ t p f. p) h
+scaled-when : (w : ℕ) (f : Float) (t : Term) → WhenFinite w t → WhenFinite w (term (t .key) (scaledOf f (t .coeff)))
+scaled-when w f t p h = half-scaled (isOdd (ysOf w (t .key))) f (t .coeff) (p (finite-scaled f (t .coeff) h)) h
 
--- a term scaled if a test passes
-scaled-when : (w : ℕ) (b : Bool) (f : Float) (t : Term) → WhenFinite w t → WhenFinite w (cond b (term (t .key) (scaledOf f (t .coeff))) t)
-scaled-when w true f t p = λ h. half-scaled (isOdd (ysOf w (t .key))) f (t .coeff) (p (finite-scaled f (t .coeff) h)) h
-scaled-when w false f t p = p
+plus-when : (w : ℕ) (k : Key) (c d : Complex64) → WhenFinite w (term k c) → WhenFinite w (term k d) → WhenFinite w (term k (plusOf c d))
+plus-when w k c d p q f = let both = finite-plus c d f in half-plus (isOdd (ysOf w k)) c d (p (both .0)) (q (both .1))
 
 -- ---- rotations
 
@@ -389,66 +327,9 @@ HalfIf b (some d) = Half b d
 found-half : (w : ℕ) (k : Key) (ts : List Term) → All (Parted w) ts → HalfIf (isOdd (ysOf w k)) (find k ts)
 unfolding find
 found-half w k [] h = tt
-found-half w k (t ∷ ts) h = go (sameKey k (t .key)) refl (found-half w k ts (h .1))
-  where
-    go : (b : Bool) → sameKey k (t .key) ≡ b → HalfIf (isOdd (ysOf w k)) (find k ts) → HalfIf (isOdd (ysOf w k)) (cond b (some (t .coeff)) (find k ts))
-    go true e r = subst⁻¹ (λ (l : Key). Half (isOdd (ysOf w l)) (t .coeff)) (sameKey-eq k (t .key) e) (h .0)
-    go false e r = r
-
-module _ (w : ℕ) (met : Key → Bool) (partner : Key → Key) (sin cos : Float)
-    (opposite : (k : Key) → length k ≡ 2 * w → met k ≡ true → ysOf w k % 2 ≡ (ysOf w (partner k) + 1) % 2) where
-  module _ (t : Term) (p : Parted w t) (turned : ysOf w (t .key) % 2 ≡ (ysOf w (partner (t .key)) + 1) % 2) where
-    flipped-when : WhenFinite w (flippedTerm met partner sin cos t)
-    flipped-when = half-flipped (ysOf w (t .key)) (ysOf w (partner (t .key))) sin (t .coeff) turned p
-
-    turned-when : (o : Option Complex64) → HalfIf (isOdd (ysOf w (partner (t .key)))) o → WhenFinite w (turnedTerm met partner sin cos t o)
-    turned-when (some d) q = λ f.
-        let both = finite-plus (scaledOf cos (t .coeff)) (flippedOf sin d) f in
-        half-plus (isOdd (ysOf w (t .key))) (scaledOf cos (t .coeff)) (flippedOf sin d) (scaled-when w true cos t (λ f. p) (both .0))
-        (half-flipped (ysOf w (partner (t .key))) (ysOf w (t .key)) sin d (omega arith) q (both .1))
-    turned-when none q = go (isZero cos)
-      where
-        go : (b : Bool) → WhenFinite w (cond b (flippedTerm met partner sin cos t) (term (t .key) (scaledOf cos (t .coeff))))
-        go true = flipped-when
-        go false = scaled-when w true cos t (λ f. p)
-
-    appended-when : (o : Option Complex64) → All (WhenFinite w) (appendedTerm met partner sin cos t o)
-    appended-when (some d) = tt
-    appended-when none = go (isZero cos)
-      where
-        go : (b : Bool) → All (WhenFinite w) (cond b [] (flippedTerm met partner sin cos t ∷ []))
-        go true = tt
-        go false = (flipped-when, tt)
-
-  module _ (old : List Term) (ps : All (Parted w) old) where
-    row-when : (t : Term) → Ready w t → WhenFinite w (turnedRow met partner sin cos old t)
-    row-when t h = go (met (t .key)) refl
-      where
-        go : (b : Bool) → met (t .key) ≡ b → WhenFinite w (cond b (turnedTerm met partner sin cos t (find (partner (t .key)) old)) t)
-        go true e = turned-when t (h .1) (opposite (t .key) (h .0 .long) e) (find (partner (t .key)) old) (found-half w (partner (t .key)) old ps)
-        go false e = λ f. h .1
-
-    rows-when : (ts : List Term) → All (Ready w) ts → All (WhenFinite w) (appendedRows met partner sin cos old ts)
-    unfolding appendedRows
-    rows-when [] h = tt
-    rows-when (t ∷ ts) h =
-        all-append (WhenFinite w) (cond (met (t .key)) (appendedTerm met partner sin cos t (find (partner (t .key)) old)) [])
-        (appendedRows met partner sin cos old ts) (go (met (t .key)) refl) (rows-when ts (h .1))
-      where
-        go : (b : Bool) → met (t .key) ≡ b → All (WhenFinite w) (cond b (appendedTerm met partner sin cos t (find (partner (t .key)) old)) [])
-        go true e = appended-when t (h .0 .1) (opposite (t .key) (h .0 .0 .long) e) (find (partner (t .key)) old)
-        go false e = tt
-
-  rotated-when : (ts : List Term) → All (OnWidth w) ts → All (Parted w) ts → All (WhenFinite w) (rotated met partner sin cos ts)
-  unfolding rotated
-  rotated-when ts o h = go (isZero sin)
-    where
-      go : (b : Bool) → All (WhenFinite w) (cond b (map (scaledMet met partner sin cos) ts) (map (turnedRow met partner sin cos ts) ts ++ appendedRows met partner sin cos ts ts))
-      go true = all-map (Parted w) (WhenFinite w) (scaledMet met partner sin cos) ts (λ t p. scaled-when w (met (t .key)) cos t (λ f. p)) h
-      go false =
-          let r = all-and (OnWidth w) (Parted w) ts o h in
-          all-append (WhenFinite w) (map (turnedRow met partner sin cos ts) ts) (appendedRows met partner sin cos ts ts)
-          (all-map (Ready w) (WhenFinite w) (turnedRow met partner sin cos ts) ts (row-when ts h) r) (rows-when ts h ts r)
+found-half w k (t ∷ ts) h =
+    cond-cases (HalfIf (isOdd (ysOf w k))) (sameKey k (t .key))
+    (λ e. subst⁻¹ (λ (l : Key). Half (isOdd (ysOf w l)) (t .coeff)) (sameKey-eq k (t .key) e) (h .0)) (λ e. found-half w k ts (h .1))
 
 -- ---- the partner of a met word has one Y letter more or less
 
@@ -473,19 +354,25 @@ module _ (w : ℕ) where
   unfolding metBy partnerBy
   partner-ys (Z q) on k long e = omega (arith, flip-z-ys q k (ltb-true q (64 * w) on) long e)
   partner-ys (Zz a b) on k long e =
-      let ha = and-true (ltb a (64 * w)) (ltb b (64 * w) && not (eqb a b)) on in
-      let hb = and-true (ltb b (64 * w)) (not (eqb a b)) (ha .1) in
-      let i = ltb-true a (64 * w) (ha .0) in
-      let j = ltb-true b (64 * w) (hb .0) in
+      let h = on-both w a b on in
       let l = flipAt k (zAt w a) in
-      two-flips (ysOf w k) (ysOf w l) (ysOf w (flipAt l (zAt w b))) (bitAt k a) (bitAt k b) e (flip-z-ys a k i long refl)
-      (flip-z-ys b l j (flipAt-length k (zAt w a) ∙ long) (bitAt-flip-other k (zAt w a) b (λ z. omega arith)))
+      two-flips (ysOf w k) (ysOf w l) (ysOf w (flipAt l (zAt w b))) (bitAt k a) (bitAt k b) e (flip-z-ys a k (h .0) long refl)
+      (flip-z-ys b l (h .1 .0) (flipAt-length k (zAt w a) ∙ long) (bitAt-flip-other k (zAt w a) b (λ z. omega arith)))
 
   -- where each coefficient is finite after it
   pub rotated-parted : (axis : Axis) (sin cos : Float) → onKey w axis ≡ true → (ts : List Term) → All (OnWidth w) ts → All (Parted w) ts
       → allFinite (rotated (metBy axis) (partnerBy w axis) sin cos ts) ≡ true → All (Parted w) (rotated (metBy axis) (partnerBy w axis) sin cos ts)
   rotated-parted axis sin cos on ts o h f =
-      when-finite w (rotated (metBy axis) (partnerBy w axis) sin cos ts) f (rotated-when w (metBy axis) (partnerBy w axis) sin cos (partner-ys axis on) ts o h)
+      when-finite w (rotated (metBy axis) (partnerBy w axis) sin cos ts) f
+      (rotated-keeps (metBy axis) (partnerBy w axis) sin cos (WhenFinite w) (Ready w) ts (λ t r f. r .1) (λ t r m. scaled-when w cos t (λ f. r .1))
+      (λ t r m. half-flipped (ysOf w (t .key)) (ysOf w (partnerBy w axis (t .key))) sin (t .coeff) (opposite t r m) (r .1))
+      (λ t d r m e. plus-when w (t .key) (scaledOf cos (t .coeff)) (flippedOf sin d) (scaled-when w cos t (λ f. r .1))
+      (half-flipped (ysOf w (partnerBy w axis (t .key))) (ysOf w (t .key)) sin d (omega (arith, opposite t r m))
+      (subst (HalfIf (isOdd (ysOf w (partnerBy w axis (t .key))))) e (found-half w (partnerBy w axis (t .key)) ts h))))
+      (all-and (OnWidth w) (Parted w) ts o h))
+    where
+      opposite : (t : Term) → Ready w t → metBy axis (t .key) ≡ true → ysOf w (t .key) % 2 ≡ (ysOf w (partnerBy w axis (t .key)) + 1) % 2
+      opposite t r m = partner-ys axis on (t .key) (r .0 .long) m
 
   -- ---- channels
 
@@ -499,40 +386,13 @@ module _ (w : ℕ) where
           ap (λ (b : Bool). b && bitAt (flipAt k (zAt w q)) (zAt w r)) (bitAt-flip-other k (zAt w q) r (λ z. omega arith) ∙ x) ∙ ap (λ (b : Bool). b && bitAt k (zAt w r)) (sym x)
       go r i (no n) = ap₂ _&&_ (bitAt-flip-other k (zAt w q) r (λ z. omega arith)) (bitAt-flip-other k (zAt w q) (zAt w r) (λ z. n (omega arith)))
 
-  plus-when : (k : Key) (c d : Complex64) → WhenFinite w (term k c) → WhenFinite w (term k d) → WhenFinite w (term k (plusOf c d))
-  plus-when k c d p q f = let both = finite-plus c d f in half-plus (isOdd (ysOf w k)) c d (p (both .0)) (q (both .1))
-
-  branch-when : (q : ℕ) (f : Float) (ts : List Term) (t : Term) → Parted w t → All (WhenFinite w) ts → All (WhenFinite w) (branch w q f ts t)
-  branch-when q f ts t p h = go (bitAt (t .key) q) (bitAt (t .key) (zAt w q)) refl
-    where
-      new : Term
-      new = term (flipAt (t .key) (zAt w q)) (scaledOf f (t .coeff))
-
-      go : (x z : Bool) → bitAt (t .key) q ≡ x → All (WhenFinite w) (cond (not x && z) (insert ts new) ts)
-      go true z e = h
-      go false true e =
-          insert-keeps (WhenFinite w) plus-when ts new
-          (subst⁻¹ (λ (n : ℕ). finiteOf (new .coeff) ≡ true → Half (isOdd n) (new .coeff)) (no-y-ys q (t .key) e) (half-scaled (isOdd (ysOf w (t .key))) f (t .coeff) p)) h
-      go false false e = h
-
-  branches-when : (q : ℕ) (f : Float) (ts : List Term) → All (Parted w) ts → All (WhenFinite w) (withBranches w q f ts)
-  branches-when q f ts h = go (isZero f)
-    where
-      go : (b : Bool) → All (WhenFinite w) (cond b ts (foldl (branch w q f) ts ts))
-      go true = parted-when w ts h
-      go false = fold-keeps (Parted w) (All (WhenFinite w)) (branch w q f) (branch-when q f) ts ts h (parted-when w ts h)
-
-  by-kind : (kind : ChannelKind) (a b : ℕ) (c : ChannelAction) (ts : List Term) → All (Parted w) ts → All (WhenFinite w) (channelBy kind w a b c ts)
-  unfolding scaledLocal
-  by-kind Local a b c ts h =
-      all-map (WhenFinite w) (WhenFinite w) (scaledLetter w a (c .lambda)) (withBranches w a (c .«z_to_identity») ts)
-      (λ t. scaled-when w (hasLetter w (t .key) a) (getD (c .lambda) (letterIndex w a (t .key)) nan) t) (branches-when a (c .«z_to_identity») ts h)
-  by-kind Depolarizing2q a b c ts h =
-      all-map (WhenFinite w) (WhenFinite w) (scaledEither w a b (getD (c .lambda) 0 nan)) ts
-      (λ t. scaled-when w (hasLetter w (t .key) a || hasLetter w (t .key) b) (getD (c .lambda) 0 nan) t) (parted-when w ts h)
-
   -- where each coefficient is finite after it; whatever the multipliers
   pub channeled-parted : (a b : ℕ) (c : ChannelAction) (ts : List Term) → All (Parted w) ts → allFinite (channeled w a b c ts) ≡ true
       → All (Parted w) (channeled w a b c ts)
-  unfolding channeled
-  channeled-parted a b c ts h f = when-finite w (channelBy (c .kind) w a b c ts) f (by-kind (c .kind) a b c ts h)
+  channeled-parted a b c ts h f =
+      when-finite w (channeled w a b c ts) f (channel-all w a b c (WhenFinite w) (Parted w) (plus-when w) (scaled-when w) cleared (λ t p f. p) ts h)
+    where
+      cleared : (t : Term) → isZLetter w a (t .key) ≡ true → Parted w t → WhenFinite w (term (flipAt (t .key) (zAt w a)) (scaledOf (c .«z_to_identity») (t .coeff)))
+      cleared t e p =
+          let x = not-true (bitAt (t .key) a) (and-true (not (bitAt (t .key) a)) (bitAt (t .key) (zAt w a)) e .0) in
+          rw (no-y-ys a (t .key) x) (half-scaled (isOdd (ysOf w (t .key))) (c .«z_to_identity») (t .coeff) p)

@@ -2,7 +2,7 @@
 use Prim.Native.Nat.{ℕ, suc, _+_, _-_, _<_, _≤_}
 use mathlib.Core.Path.{_≡_, refl, sym, ap, _∙_}
 use mathlib.Core.List.{List, [], _∷_}
-use mathlib.Core.Bool.{Bool, true, false, cond, _&&_, and-false, false≢true}
+use mathlib.Core.Bool.{Bool, true, false, cond, and-false, and-eq-true-iff}
 use native.Mathlib.Numerals.{add-one}
 use native.Mathlib.Nat.{add-assoc, le-of-suc-le-suc}
 use native.Mathlib.Omega.{arith}
@@ -133,10 +133,6 @@ begins-short [] s h = absurd (omega (arith, h))
 begins-short (b ∷ k) [] h = refl
 begins-short (b ∷ k) (d ∷ s) h = rw (← begins-short k s (le-of-suc-le-suc h), and-false)
 
-both-true : (a b : Bool) → (a && b) ≡ true → (a ≡ true) × (b ≡ true)
-both-true true b e = (refl, e)
-both-true false b e = absurd (false≢true e)
-
 -- a text that starts with k, of k's length
 pub begins-is : (k s : List ℕ) → length s ≡ length k → begins k s ≡ true → k ≡ s
 unfolding begins
@@ -144,12 +140,12 @@ begins-is [] [] l e = refl
 begins-is [] (b ∷ s) l e = absurd (omega (arith, l))
 begins-is (b ∷ k) [] l e = absurd (omega (arith, l))
 begins-is (b ∷ k) (d ∷ s) l e =
-    let h = both-true (eqb d b) (begins k s) e in
+    let h = and-eq-true-iff (eqb d b) (begins k s) .0 e in
     rw (eqb-true d b (h .0), begins-is k s (omega (arith, l)) (h .1))
 
 -- a text that was found to be k
 pub same-is : (k s : List ℕ) → same k s ≡ true → k ≡ s
-same-is k s e = let h = both-true (eqb (length s) (length k)) (begins k s) e in begins-is k s (eqb-true _ _ (h .0)) (h .1)
+same-is k s e = let h = and-eq-true-iff (eqb (length s) (length k)) (begins k s) .0 e in begins-is k s (eqb-true _ _ (h .0)) (h .1)
 
 -- a text starts with itself and is itself
 pub begins-self : (k : List ℕ) → begins k k ≡ true

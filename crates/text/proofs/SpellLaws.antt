@@ -2,8 +2,8 @@
 use Prim.Native.Nat.{ℕ, zero, suc, _+_, _-_, _*_, _/_, _%_, _^_, _<_, _≤_}
 use mathlib.Core.Path.{_≡_, refl, sym, ap, subst, _∙_}
 use mathlib.Core.List.{List, [], _∷_, _++_, append-assoc, append-nil}
-use mathlib.Core.Bool.{Bool, true, false, cond, _&&_, false≢true}
-use native.Mathlib.Nat.{pow-suc, zero-add, add-zero, zero-lt-suc, div-lt-iff-lt-mul}
+use mathlib.Core.Bool.{Bool, true, false, cond, _&&_, and-eq-true-iff, false≢true}
+use native.Mathlib.Nat.{pow-suc, mul-le-mul-right, zero-add, add-zero, zero-lt-suc, div-lt-iff-lt-mul}
 use native.Mathlib.Omega.{arith}
 use borrow.Author.Tests.{ltb-true, ltb-false, leb-true, eqb-true, eqb-false, lt-ltb, le-ltb, ne-eqb}
 use lib.ListN.{length, getD, length-append}
@@ -40,6 +40,36 @@ bad-is-none f k l v e = bad-no-number v (sym (steps-bad f k l) ∙ e)
 
 one-over : (a b : ℕ) → suc a + b ≡ a + suc b
 one-over a b = omega arith
+
+-- ---- digits that were read spell the number that was read, in any base
+
+-- one digit more
+grows : (base d u g : ℕ) → u < base ^ d → g < base → base * u + g < base ^ suc d
+grows base d u g h l = rw (pow-suc base d) (omega (arith, mul-le-mul-right base h))
+
+module _ (base : ℕ) (next : Read → ℕ → Read) (value : ℕ → ℕ) (text : ℕ → ℕ → List ℕ) (Good Digit : ℕ → Type 0) (low : (b : ℕ) → Digit b → value b < base)
+    (read : (u b : ℕ) (bs : List ℕ) (v : ℕ) → Good u → steps next (b ∷ bs) (Number u) ≡ Number v
+    → Digit b × Good (base * u + value b) × (steps next bs (Number (base * u + value b)) ≡ Number v))
+    (snoc : (d u b : ℕ) → Good u → Digit b → text (suc d) (base * u + value b) ≡ text d u ++ (b ∷ [])) where
+  -- d digits that were read, to u, before the bytes that are left, spell the number v
+  spelled : (s : List ℕ) (d u v : ℕ) → Good u → u < base ^ d → steps next s (Number u) ≡ Number v
+      → Good v × (v < base ^ (d + length s)) × (text d u ++ s ≡ text (d + length s) v)
+  unfolding steps
+  spelled [] d u v g h e =
+      let q = same-number u v e in
+      let z = sym (add-zero d) in (
+        subst Good q g,
+        subst (λ (x : ℕ). v < base ^ x) z (subst (λ (x : ℕ). x < base ^ d) q h),
+        append-nil (text d u) ∙ ap (text d) q ∙ ap (λ (k : ℕ). text k v) z,
+      )
+  spelled (b ∷ bs) d u v g h e =
+      let r = read u b bs v g e in
+      let w = spelled bs (suc d) (base * u + value b) v (r .1) (grows base d u (value b) h (low b (r .0))) (r .2) in
+      let o = one-over d (length bs) in (
+        w .0,
+        subst (λ (x : ℕ). v < base ^ x) o (w .1),
+        sym (append-assoc (text d u) (b ∷ []) bs) ∙ ap (λ (x : List ℕ). x ++ bs) (sym (snoc d u b g (r .0))) ∙ w .2 ∙ ap (λ (k : ℕ). text k v) o,
+      )
 
 -- ---- hexadecimal digits
 
@@ -104,52 +134,30 @@ pub hex-reads : (v : ℕ) → v < 2 ^ 64 → hex16 (hexText 16 v) ≡ Number v
 hex-reads v h = sym (hex16-start (hexText 16 v) (length-hexText 16 v)) ∙ hex-steps 16 v h
 
 -- what it takes that the first byte of a text is read
-hex-read : (u b : ℕ) (bs : List ℕ) (v : ℕ) → steps nextHex (b ∷ bs) (Number u) ≡ Number v
-    → (hexDigit b < 16) × (steps nextHex bs (Number (16 * u + hexDigit b)) ≡ Number v)
+hex-read : (u b : ℕ) (bs : List ℕ) (v : ℕ) → Unit {0} → steps nextHex (b ∷ bs) (Number u) ≡ Number v
+    → (hexDigit b < 16) × Unit {0} × (steps nextHex bs (Number (16 * u + hexDigit b)) ≡ Number v)
 unfolding steps nextHex
-hex-read u b bs v e = go (ltb (hexDigit b) 16) refl e
+hex-read u b bs v g e = go (ltb (hexDigit b) 16) refl e
   where
     go : (t : Bool) → ltb (hexDigit b) 16 ≡ t → steps nextHex bs (cond t (Number (16 * u + hexDigit b)) Bad) ≡ Number v
-        → (hexDigit b < 16) × (steps nextHex bs (Number (16 * u + hexDigit b)) ≡ Number v)
-    go true t h = (ltb-true _ _ t, h)
+        → (hexDigit b < 16) × Unit {0} × (steps nextHex bs (Number (16 * u + hexDigit b)) ≡ Number v)
+    go true t h = (ltb-true _ _ t, tt, h)
     go false t h = absurd (bad-is-none nextHex hex-stays bs v h)
 
 -- one digit more at the end of the text, and of the number
-hex-snoc : (d u g b : ℕ) → g < 16 → hexByte g ≡ b → hexText (suc d) (16 * u + g) ≡ hexText d u ++ (b ∷ [])
+hex-snoc : (d u b : ℕ) → Unit {0} → hexDigit b < 16 → hexText (suc d) (16 * u + hexDigit b) ≡ hexText d u ++ (b ∷ [])
 unfolding hexText
-hex-snoc d u g b l k =
+hex-snoc d u b o l =
+    let g = hexDigit b in
     let q : (16 * u + g) / 16 ≡ u = omega arith in
     let m : (16 * u + g) % 16 ≡ g = omega arith in
-    rw (q, m, k)
-
-hex-more : (d u g : ℕ) → u < 16 ^ d → g < 16 → 16 * u + g < 16 ^ suc d
-hex-more d u g h l = rw (pow-suc 16 d) (omega arith)
-
--- d digits that were read, to u, before the bytes that are left, spell the number v
-hex-left : (s : List ℕ) (d u v : ℕ) → u < 16 ^ d → steps nextHex s (Number u) ≡ Number v → (hexText d u ++ s ≡ hexText (d + length s) v) × (v < 16 ^ (d + length s))
-unfolding steps
-hex-left [] d u v h e =
-    let q = same-number u v e in
-    let z = sym (add-zero d) in (
-      append-nil (hexText d u) ∙ ap (hexText d) q ∙ ap (λ (k : ℕ). hexText k v) z,
-      subst (λ (x : ℕ). v < 16 ^ x) z (subst (λ (x : ℕ). x < 16 ^ d) q h),
-    )
-hex-left (b ∷ bs) d u v h e =
-    let r = hex-read u b bs v e in
-    let g = hexDigit b in
-    let left = hex-left bs (suc d) (16 * u + g) v (hex-more d u g h (r .0)) (r .1) in (
-      sym (append-assoc (hexText d u) (b ∷ []) bs)
-          ∙ ap (λ (x : List ℕ). x ++ bs) (sym (hex-snoc d u g b (r .0) (hex-byte-of b (r .0))))
-          ∙ left .0
-          ∙ ap (λ (k : ℕ). hexText k v) (one-over d (length bs)),
-      subst (λ (x : ℕ). v < 16 ^ x) (one-over d (length bs)) (left .1),
-    )
+    rw (q, m, hex-byte-of b l)
 
 hex-whole : (s : List ℕ) (v : ℕ) → steps nextHex s (Number 0) ≡ Number v → (s ≡ hexText (length s) v) × (v < 16 ^ length s)
 unfolding hexText
 hex-whole s v h =
-    let left = hex-left s 0 0 v (zero-lt-suc 0) h in
-    (left .0 ∙ ap (λ (k : ℕ). hexText k v) (zero-add (length s)), subst (λ (k : ℕ). v < 16 ^ k) (zero-add (length s)) (left .1))
+    let w = spelled 16 nextHex hexDigit hexText (λ u. Unit {0}) (λ b. hexDigit b < 16) (λ b l. l) hex-read hex-snoc s 0 0 v tt (zero-lt-suc 0) h in
+    (w .2 ∙ ap (λ (k : ℕ). hexText k v) (zero-add (length s)), subst (λ (k : ℕ). v < 16 ^ k) (zero-add (length s)) (w .1))
 
 hex-both : (s : List ℕ) (v : ℕ) → hex16 s ≡ Number v → (s ≡ hexText 16 v) × (v < 2 ^ 64)
 unfolding hex16
@@ -171,10 +179,6 @@ hex-below s v e = hex-both s v e .1
 
 -- ---- one decimal digit
 
-both-true : (a b : Bool) → (a && b) ≡ true → (a ≡ true) × (b ≡ true)
-both-true true b e = (refl, e)
-both-true false b e = absurd (false≢true e)
-
 -- a digit g after a number u
 digit-good : (u g n : ℕ) → g < 10 → 10 * u + g ≡ n → n < 2 ^ 64 → nextDigit (Number u) (48 + g) ≡ Number n
 digit-good u g n l e h =
@@ -182,33 +186,32 @@ digit-good u g n l e h =
     sym (digit-fits u (48 + g) (omega arith) (omega (arith, l)) (omega (arith, m, h))) ∙ ap Number m
 
 -- what it takes that the first byte of a text is read
-record Digit (u b : ℕ) (bs : List ℕ) (v g : ℕ) : Type 0 where
-  pub is : b ≡ 48 + g
-  pub low : g < 10
-  pub fits : 10 * u + g < 2 ^ 64
-  pub rest : steps nextDigit bs (Number (10 * u + g)) ≡ Number v
+abbrev IsDigit : ℕ → Type 0
+IsDigit b = (b ≡ 48 + (b - 48)) × (b - 48 < 10)
 
-digit-read : (u b : ℕ) (bs : List ℕ) (v : ℕ) → steps nextDigit (b ∷ bs) (Number u) ≡ Number v → Digit u b bs v (b - 48)
+digit-read : (u b : ℕ) (bs : List ℕ) (v : ℕ) → steps nextDigit (b ∷ bs) (Number u) ≡ Number v
+    → IsDigit b × (10 * u + (b - 48) < 2 ^ 64) × (steps nextDigit bs (Number (10 * u + (b - 48))) ≡ Number v)
 unfolding steps nextDigit
 digit-read u b bs v e = go (isDigit b && ltb (10 * u + (b - 48)) (2 ^ 64)) refl e
   where
-    go : (t : Bool) → (isDigit b && ltb (10 * u + (b - 48)) (2 ^ 64)) ≡ t → steps nextDigit bs (cond t (Number (10 * u + (b - 48))) Bad) ≡ Number v → Digit u b bs v (b - 48)
+    go : (t : Bool) → (isDigit b && ltb (10 * u + (b - 48)) (2 ^ 64)) ≡ t → steps nextDigit bs (cond t (Number (10 * u + (b - 48))) Bad) ≡ Number v
+        → IsDigit b × (10 * u + (b - 48) < 2 ^ 64) × (steps nextDigit bs (Number (10 * u + (b - 48))) ≡ Number v)
     go false q h = absurd (bad-is-none nextDigit digit-stays bs v h)
     go true q h =
-        let a = both-true (isDigit b) _ q in
-        let d = both-true (leb 48 b) (leb b 57) (a .0) in
+        let a = and-eq-true-iff (isDigit b) _ .0 q in
+        let d = and-eq-true-iff (leb 48 b) (leb b 57) .0 (a .0) in
         let lo : 48 ≤ b = leb-true _ _ (d .0) in
         let hi : b ≤ 57 = leb-true _ _ (d .1) in
-        record { is = omega arith; low = omega arith; fits = ltb-true _ _ (a .1); rest = h }
+        ((omega arith, omega arith), ltb-true _ _ (a .1), h)
 
 -- ---- decimal texts
 
 -- the text of one digit, and of more
-short-text : (d n : ℕ) → n < 10 → decimalText (suc d) n ≡ (48 + n) ∷ []
+pub short-text : (d n : ℕ) → n < 10 → decimalText (suc d) n ≡ (48 + n) ∷ []
 unfolding decimalText
 short-text d n h = rw (lt-ltb n 10 h)
 
-long-text : (d n : ℕ) → 10 ≤ n → decimalText (suc d) n ≡ decimalText d (n / 10) ++ ((48 + n % 10) ∷ [])
+pub long-text : (d n : ℕ) → 10 ≤ n → decimalText (suc d) n ≡ decimalText d (n / 10) ++ ((48 + n % 10) ∷ [])
 unfolding decimalText
 long-text d n h = rw (le-ltb n 10 h)
 
@@ -277,76 +280,47 @@ enough (suc d) (suc e) n p h k = go (ltb n 10) refl (enough d e (n / 10))
         ∙ ap (λ (x : List ℕ). x ++ ((48 + n % 10) ∷ [])) (ih (omega (arith, l)) (tenth d n h) (tenth e n k))
         ∙ sym (long-text e n l)
 
--- d digits that were read, to u, before the bytes that are left, spell the number v
-record Spelled (d u : ℕ) (s : List ℕ) (v : ℕ) : Type 0 where
-  pub some : 1 ≤ v
-  pub fits : v < 2 ^ 64
-  pub below : v < 10 ^ (d + length s)
-  pub text : decimalText d u ++ s ≡ decimalText (d + length s) v
+-- what was read and is not 0
+abbrev Good : ℕ → Type 0
+Good u = (1 ≤ u) × (u < 2 ^ 64)
 
-decimal-left : (s : List ℕ) (d u v : ℕ) → 1 ≤ u → u < 2 ^ 64 → u < 10 ^ d → steps nextDigit s (Number u) ≡ Number v → Spelled d u s v
-unfolding steps
-decimal-left [] d u v p f h e =
-    let q = same-number u v e in record {
-      some = subst (λ (x : ℕ). 1 ≤ x) q p;
-      fits = subst (λ (x : ℕ). x < 2 ^ 64) q f;
-      below = subst (λ (x : ℕ). v < 10 ^ x) (sym (add-zero d)) (subst (λ (x : ℕ). x < 10 ^ d) q h);
-      text = append-nil (decimalText d u) ∙ ap (decimalText d) q ∙ ap (λ (k : ℕ). decimalText k v) (sym (add-zero d));
-    }
-decimal-left (b ∷ bs) d u v p f h e = go (b - 48) (digit-read u b bs v e) (decimal-left bs (suc d) (10 * u + (b - 48)) v)
+good-read : (u b : ℕ) (bs : List ℕ) (v : ℕ) → Good u → steps nextDigit (b ∷ bs) (Number u) ≡ Number v
+    → IsDigit b × Good (10 * u + (b - 48)) × (steps nextDigit bs (Number (10 * u + (b - 48))) ≡ Number v)
+good-read u b bs v g e = let r = digit-read u b bs v e in (r .0, (omega (arith, g .0), r .1), r .2)
+
+good-snoc : (d u b : ℕ) → Good u → IsDigit b → decimalText (suc d) (10 * u + (b - 48)) ≡ decimalText d u ++ (b ∷ [])
+good-snoc d u b g r = go (b - 48) (r .0) (r .1) (g .0)
   where
-    grows : (g : ℕ) → g < 10 → 10 * u + g < 10 ^ suc d
-    grows g l = rw (pow-suc 10 d) (omega arith)
-
-    snoc : (g : ℕ) → g < 10 → b ≡ 48 + g → decimalText (suc d) (10 * u + g) ≡ decimalText d u ++ (b ∷ [])
-    snoc g l k =
+    go : (g : ℕ) → b ≡ 48 + g → g < 10 → 1 ≤ u → decimalText (suc d) (10 * u + g) ≡ decimalText d u ++ (b ∷ [])
+    go g k l p =
         let q : (10 * u + g) / 10 ≡ u = omega arith in
         let m : (10 * u + g) % 10 ≡ g = omega arith in
         long-text d (10 * u + g) (omega arith) ∙ rw (q, m, k)
 
-    go : (g : ℕ) → Digit u b bs v g
-        → (1 ≤ 10 * u + g → 10 * u + g < 2 ^ 64 → 10 * u + g < 10 ^ suc d → steps nextDigit bs (Number (10 * u + g)) ≡ Number v → Spelled (suc d) (10 * u + g) bs v)
-        → Spelled d u (b ∷ bs) v
-    go g r ih =
-        let left = ih (omega (arith, p)) (r .fits) (grows g (r .low)) (r .rest) in record {
-          some = left .some;
-          fits = left .fits;
-          below = subst (λ (x : ℕ). v < 10 ^ x) (one-over d (length bs)) (left .below);
-          text =
-              sym (append-assoc (decimalText d u) (b ∷ []) bs)
-              ∙ ap (λ (x : List ℕ). x ++ bs) (sym (snoc g (r .low) (r .is)))
-              ∙ left .text
-              ∙ ap (λ (k : ℕ). decimalText k v) (one-over d (length bs));
-        }
-
 -- a text of one digit, and of more
 decimal-one-spells : (b n : ℕ) → steps nextDigit (b ∷ []) (Number 0) ≡ Number n → (b ∷ [] ≡ natText n) × (n < 2 ^ 64)
 unfolding steps
-decimal-one-spells b n e = go (b - 48) (digit-read 0 b [] n e)
-  where
-    go : (g : ℕ) → Digit 0 b [] n g → (b ∷ [] ≡ natText n) × (n < 2 ^ 64)
-    go g r =
-        let q : g ≡ n = sym (zero-add g) ∙ same-number _ _ (r .rest) in
-        (ap (λ (x : ℕ). x ∷ []) (r .is) ∙ sym (short-text 19 g (r .low)) ∙ ap natText q, subst (λ (x : ℕ). x < 2 ^ 64) q (omega (arith, r .low)))
+decimal-one-spells b n e =
+    let r = digit-read 0 b [] n e in
+    let q : b - 48 ≡ n = sym (zero-add (b - 48)) ∙ same-number _ _ (r .2) in
+    (ap (λ (x : ℕ). x ∷ []) (r .0 .0) ∙ sym (short-text 19 (b - 48) (r .0 .1)) ∙ ap natText q, subst (λ (x : ℕ). x < 2 ^ 64) q (omega (arith, r .0 .1)))
 
 decimal-more-spells : (b : ℕ) (bs : List ℕ) (n : ℕ) → (b ≡ 48 → ⊥) → steps nextDigit (b ∷ bs) (Number 0) ≡ Number n → (b ∷ bs ≡ natText n) × (n < 2 ^ 64)
-decimal-more-spells b bs n z e = go (b - 48) (digit-read 0 b bs n e)
+decimal-more-spells b bs n z e =
+    let r = digit-read 0 b bs n e in
+    let low = r .0 .1 in
+    let w = spelled 10 nextDigit (λ b. b - 48) decimalText Good IsDigit (λ b i. i .1) good-read good-snoc bs 1 (b - 48) n
+    (pos (b - 48) (r .0 .0), omega arith) low (rw zero-add at (r .2)) in (
+      ap (λ (x : ℕ). x ∷ bs) (r .0 .0)
+          ∙ ap (λ (x : List ℕ). x ++ bs) (sym (short-text 0 (b - 48) low))
+          ∙ w .2
+          ∙ enough (1 + length bs) 20 n (w .0 .0) (w .1) (below-20 n (w .0 .1)),
+      w .0 .1,
+    )
   where
-    go : (g : ℕ) → Digit 0 b bs n g → (b ∷ bs ≡ natText n) × (n < 2 ^ 64)
-    go g r =
-        let some : 1 ≤ g = pos g (r .is) in
-        let low = r .low in
-        let left = decimal-left bs 1 g n some (omega arith) (omega arith) (subst (λ (x : ℕ). steps nextDigit bs (Number x) ≡ Number n) (zero-add g) (r .rest)) in (
-          ap (λ (x : ℕ). x ∷ bs) (r .is)
-              ∙ ap (λ (x : List ℕ). x ++ bs) (sym (short-text 0 g low))
-              ∙ left .text
-              ∙ enough (1 + length bs) 20 n (left .some) (left .below) (below-20 n (left .fits)),
-          left .fits,
-        )
-      where
-        pos : (g : ℕ) → b ≡ 48 + g → 1 ≤ g
-        pos zero k = absurd (z k)
-        pos (suc g) k = omega arith
+    pos : (g : ℕ) → b ≡ 48 + g → 1 ≤ g
+    pos zero k = absurd (z k)
+    pos (suc g) k = omega arith
 
 decimal-both : (s : List ℕ) (n : ℕ) → decimal s ≡ Number n → (s ≡ natText n) × (n < 2 ^ 64)
 unfolding decimal

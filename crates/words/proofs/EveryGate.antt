@@ -1,5 +1,5 @@
 -- A test of every gate and of all bits at its targets, which antt computes, holds of each gate and all bits. Assumes nothing.
-use mathlib.Core.Path.{_≡_, refl, ap₂, _∙_}
+use mathlib.Core.Path.{_≡_, refl, sym, ap, ap₂, _∙_}
 use mathlib.Core.Bool.{Bool, true, false, _&&_, Bool·beq}
 use lib.Dec.{T}
 use Rattle.words.specs.declared.Bits as B
@@ -67,7 +67,7 @@ at-gate p t g =
 pub at-each : (p : Gate → B.Bits → Bool) → T (everyGate (λ g. everyBits (p g))) → (g : Gate) (s : B.Bits) → T (p g s)
 at-each p t g s = at-bits (p g) (at-gate (λ g. everyBits (p g)) t g) s
 
-beq→eq : (a b : Bool) → T (Bool·beq a b) → a ≡ b
+pub beq→eq : (a b : Bool) → T (Bool·beq a b) → a ≡ b
 beq→eq true true t = refl
 beq→eq false false t = refl
 beq→eq true false t = absurd t
@@ -86,3 +86,7 @@ same→eq s t h =
     let u : s .xb ≡ t .xb = beq→eq (s .xb) (t .xb) (and-fst (Bool·beq (s .xb) (t .xb)) _ h₂) in
     let v : s .zb ≡ t .zb = beq→eq (s .zb) (t .zb) (and-snd (Bool·beq (s .xb) (t .xb)) _ h₂) in
     ap₂ (λ (x z : Bool). mk x z (s .xb) (s .zb)) p q ∙ ap₂ (λ (x z : Bool). mk (t .xa) (t .za) x z) u v
+
+-- what a function of a gate and bits has in the arm of a gate
+pub arm : {A : Type 0} (f : Gate → B.Bits → A) (s : B.Bits) {g h : Gate} → g ≡ h → f h s ≡ f g s
+arm f s e = ap (λ (g : Gate). f g s) (sym e)

@@ -75,62 +75,64 @@ moved-none s w a b k =
     ∙ flipWhen-none (s .za) (s .za) (zAt w a) (flipWhen (s .xa ⊕ s .xa) a k) refl
     ∙ flipWhen-none (s .xa) (s .xa) a k refl
 
-module _ (s t : B.Bits) (w a b : ℕ) (k : Key) where
-  abbrev k₁ : Key
-  k₁ = flipWhen (s .xa ⊕ t .xa) a k
+-- every bit that is none of the four
+pub moved-other : (s t : B.Bits) (w a b : ℕ) (k : Key) (j : ℕ) → j ≢ a → j ≢ zAt w a → j ≢ b → j ≢ zAt w b → bitAt (moved s t w a b k) j ≡ bitAt k j
+moved-other s t w a b k j p q u v =
+    let k₁ = flipWhen (s .xa ⊕ t .xa) a k in
+    let k₂ = flipWhen (s .za ⊕ t .za) (zAt w a) k₁ in
+    flipWhen-other (s .zb ⊕ t .zb) (zAt w b) (flipWhen (s .xb ⊕ t .xb) b k₂) j v
+    ∙ flipWhen-other (s .xb ⊕ t .xb) b k₂ j u
+    ∙ flipWhen-other (s .za ⊕ t .za) (zAt w a) k₁ j q
+    ∙ flipWhen-other (s .xa ⊕ t .xa) a k j p
 
-  abbrev k₂ : Key
-  k₂ = flipWhen (s .za ⊕ t .za) (zAt w a) k₁
+-- ---- the two flips at a qubit
 
-  abbrev k₃ : Key
-  k₃ = flipWhen (s .xb ⊕ t .xb) b k₂
+abbrev pub changed : ℕ → ℕ → Bool → Bool → Key → Key
+changed w q x z k = flipWhen z (zAt w q) (flipWhen x q k)
 
-  -- every bit that is none of the four
-  pub moved-other : (j : ℕ) → j ≢ a → j ≢ zAt w a → j ≢ b → j ≢ zAt w b → bitAt (moved s t w a b k) j ≡ bitAt k j
-  moved-other j p q u v =
-      flipWhen-other (s .zb ⊕ t .zb) (zAt w b) k₃ j v
-      ∙ flipWhen-other (s .xb ⊕ t .xb) b k₂ j u
-      ∙ flipWhen-other (s .za ⊕ t .za) (zAt w a) k₁ j q
-      ∙ flipWhen-other (s .xa ⊕ t .xa) a k j p
+module _ (w q : ℕ) (x z : Bool) (k : Key) where
+  pub changed-length : length (changed w q x z k) ≡ length k
+  changed-length = flipWhen-length z (zAt w q) (flipWhen x q k) ∙ flipWhen-length x q k
 
-  module _ (ha : a < 64 * w) (hb : b < 64 * w) (ne : a ≢ b) (long : length k ≡ 2 * w) where
-    long₁ : length k₁ ≡ 2 * w
-    long₁ = flipWhen-length (s .xa ⊕ t .xa) a k ∙ long
+  -- the bits at another qubit
+  pub changed-x : (r : ℕ) → r < 64 * w → r ≢ q → bitAt (changed w q x z k) r ≡ bitAt k r
+  changed-x r h n = flipWhen-other z (zAt w q) (flipWhen x q k) r (λ e. omega arith) ∙ flipWhen-other x q k r n
 
-    long₂ : length k₂ ≡ 2 * w
-    long₂ = flipWhen-length (s .za ⊕ t .za) (zAt w a) k₁ ∙ long₁
+  pub changed-z : (r : ℕ) → q < 64 * w → r ≢ q → bitAt (changed w q x z k) (zAt w r) ≡ bitAt k (zAt w r)
+  changed-z r h n = flipWhen-other z (zAt w q) (flipWhen x q k) (zAt w r) (λ e. n (omega arith)) ∙ flipWhen-other x q k (zAt w r) (λ e. omega arith)
 
-    long₃ : length k₃ ≡ 2 * w
-    long₃ = flipWhen-length (s .xb ⊕ t .xb) b k₂ ∙ long₂
+  -- those at this one
+  module _ (h : q < 64 * w) (long : length k ≡ 2 * w) where
+    pub own-x : bitAt (changed w q x z k) q ≡ bitAt k q ⊕ x
+    own-x = flipWhen-other z (zAt w q) (flipWhen x q k) q (λ e. omega arith) ∙ flipWhen-same x q k (omega arith)
 
-    moved-xa : bitAt (moved s t w a b k) a ≡ bitAt k a ⊕ (s .xa ⊕ t .xa)
-    moved-xa =
-        flipWhen-other (s .zb ⊕ t .zb) (zAt w b) k₃ a (λ e. omega arith)
-        ∙ flipWhen-other (s .xb ⊕ t .xb) b k₂ a ne
-        ∙ flipWhen-other (s .za ⊕ t .za) (zAt w a) k₁ a (λ e. omega arith)
-        ∙ flipWhen-same (s .xa ⊕ t .xa) a k (omega arith)
+    pub own-z : bitAt (changed w q x z k) (zAt w q) ≡ bitAt k (zAt w q) ⊕ z
+    own-z =
+        flipWhen-same z (zAt w q) (flipWhen x q k) (omega (arith, flipWhen-length x q k))
+        ∙ ap (λ (b : Bool). b ⊕ z) (flipWhen-other x q k (zAt w q) (λ e. omega arith))
 
-    moved-za : bitAt (moved s t w a b k) (zAt w a) ≡ bitAt k (zAt w a) ⊕ (s .za ⊕ t .za)
-    moved-za =
-        flipWhen-other (s .zb ⊕ t .zb) (zAt w b) k₃ (zAt w a) (λ e. ne (omega arith))
-        ∙ flipWhen-other (s .xb ⊕ t .xb) b k₂ (zAt w a) (λ e. omega arith)
-        ∙ flipWhen-same (s .za ⊕ t .za) (zAt w a) k₁ (omega (arith, long₁))
-        ∙ ap (λ (x : Bool). x ⊕ (s .za ⊕ t .za)) (flipWhen-other (s .xa ⊕ t .xa) a k (zAt w a) (λ e. omega arith))
+module _ (s t : B.Bits) (w a b : ℕ) (k : Key) (ha : a < 64 * w) (hb : b < 64 * w) (ne : a ≢ b) (long : length k ≡ 2 * w) where
+  abbrev first : Key
+  first = changed w a (s .xa ⊕ t .xa) (s .za ⊕ t .za) k
 
-    moved-xb : bitAt (moved s t w a b k) b ≡ bitAt k b ⊕ (s .xb ⊕ t .xb)
-    moved-xb =
-        flipWhen-other (s .zb ⊕ t .zb) (zAt w b) k₃ b (λ e. omega arith)
-        ∙ flipWhen-same (s .xb ⊕ t .xb) b k₂ (omega (arith, long₂))
-        ∙ ap (λ (x : Bool). x ⊕ (s .xb ⊕ t .xb))
-        (flipWhen-other (s .za ⊕ t .za) (zAt w a) k₁ b (λ e. omega arith) ∙ flipWhen-other (s .xa ⊕ t .xa) a k b (λ e. ne (sym e)))
+  longer : length first ≡ 2 * w
+  longer = changed-length w a (s .xa ⊕ t .xa) (s .za ⊕ t .za) k ∙ long
 
-    moved-zb : bitAt (moved s t w a b k) (zAt w b) ≡ bitAt k (zAt w b) ⊕ (s .zb ⊕ t .zb)
-    moved-zb =
-        flipWhen-same (s .zb ⊕ t .zb) (zAt w b) k₃ (omega (arith, long₃))
-        ∙ ap (λ (x : Bool). x ⊕ (s .zb ⊕ t .zb))
-        (flipWhen-other (s .xb ⊕ t .xb) b k₂ (zAt w b) (λ e. omega arith)
-        ∙ flipWhen-other (s .za ⊕ t .za) (zAt w a) k₁ (zAt w b) (λ e. ne (omega arith))
-        ∙ flipWhen-other (s .xa ⊕ t .xa) a k (zAt w b) (λ e. omega arith))
+  moved-xa : bitAt (moved s t w a b k) a ≡ bitAt k a ⊕ (s .xa ⊕ t .xa)
+  moved-xa = changed-x w b (s .xb ⊕ t .xb) (s .zb ⊕ t .zb) first a ha ne ∙ own-x w a (s .xa ⊕ t .xa) (s .za ⊕ t .za) k ha long
+
+  moved-za : bitAt (moved s t w a b k) (zAt w a) ≡ bitAt k (zAt w a) ⊕ (s .za ⊕ t .za)
+  moved-za = changed-z w b (s .xb ⊕ t .xb) (s .zb ⊕ t .zb) first a hb ne ∙ own-z w a (s .xa ⊕ t .xa) (s .za ⊕ t .za) k ha long
+
+  moved-xb : bitAt (moved s t w a b k) b ≡ bitAt k b ⊕ (s .xb ⊕ t .xb)
+  moved-xb =
+      own-x w b (s .xb ⊕ t .xb) (s .zb ⊕ t .zb) first hb longer
+      ∙ ap (λ (x : Bool). x ⊕ (s .xb ⊕ t .xb)) (changed-x w a (s .xa ⊕ t .xa) (s .za ⊕ t .za) k b hb (λ e. ne (sym e)))
+
+  moved-zb : bitAt (moved s t w a b k) (zAt w b) ≡ bitAt k (zAt w b) ⊕ (s .zb ⊕ t .zb)
+  moved-zb =
+      own-z w b (s .xb ⊕ t .xb) (s .zb ⊕ t .zb) first hb longer
+      ∙ ap (λ (x : Bool). x ⊕ (s .zb ⊕ t .zb)) (changed-z w a (s .xa ⊕ t .xa) (s .za ⊕ t .za) k b ha (λ e. ne (sym e)))
 
 -- ---- a gate on a key
 

@@ -1,18 +1,18 @@
 -- The inverse gate undoes a gate: every word is restored, and the two factors cancel. So a gate keeps distinct keys distinct. Assumes nothing.
 use Prim.Native.Nat.{ℕ, zero, suc, _+_, _*_, _%_, _<_}
 use mathlib.Core.Path.{_≡_, refl, sym, ap, _∙_}
-use mathlib.Core.Bool.{Bool, true, false}
+use mathlib.Core.Bool.{Bool, true, false, Bool·beq}
 use mathlib.Core.Logic.{_≢_}
 use native.Mathlib.Omega.{arith}
 use native.Mathlib.Decide.{ℕ-discrete}
 use lib.ListN.{length}
-use lib.Dec.{T, eqb, eqb→eq}
+use lib.Dec.{eqb, eqb→eq}
 use Rattle.words.specs.declared.Bits as B
 use Rattle.words.specs.declared.Gate.{Gate}
 use Rattle.words.specs.Keys.{Key, bitAt, zAt, Words}
 use Rattle.words.specs.Gates.{hasTwoTargets, conjBits, conjPhase, bitsAt, conjKey, inverse, Targets}
 use Rattle.words.proofs.KeyLaws.{key-ext}
-use Rattle.words.proofs.EveryGate.{at-gate, at-each, same, same→eq}
+use Rattle.words.proofs.EveryGate.{beq→eq, at-gate, at-each, same, same→eq}
 use Rattle.words.proofs.GateLaws.{conjKey-length, conjKey-words, conjKey-other, conjKey-bits, one-target-key}
 
 inverse-bits : (g : Gate) (s : B.Bits) → conjBits (inverse g) (conjBits g s) ≡ s
@@ -22,18 +22,7 @@ pub inverse-phase : (g : Gate) (s : B.Bits) → (conjPhase g s + conjPhase (inve
 inverse-phase g s = eqb→eq _ _ (at-each (λ g s. eqb ((conjPhase g s + conjPhase (inverse g) (conjBits g s)) % 4) 0) tt g s)
 
 pub inverse-targets : (g : Gate) → hasTwoTargets (inverse g) ≡ hasTwoTargets g
-inverse-targets g = beq (hasTwoTargets (inverse g)) (hasTwoTargets g) (at-gate (λ g. alike (hasTwoTargets (inverse g)) (hasTwoTargets g)) tt g)
-  where
-    alike : Bool → Bool → Bool
-    alike true b = b
-    alike false true = false
-    alike false false = true
-
-    beq : (a b : Bool) → T (alike a b) → a ≡ b
-    beq true true t = refl
-    beq true false t = absurd t
-    beq false true t = absurd t
-    beq false false t = refl
+inverse-targets g = beq→eq _ _ (at-gate (λ g. Bool·beq (hasTwoTargets (inverse g)) (hasTwoTargets g)) tt g)
 
 -- at two distinct targets
 module _ (g : Gate) (w a b : ℕ) (k : Key) (ha : a < 64 * w) (hb : b < 64 * w) (ne : a ≢ b) (long : length k ≡ 2 * w) (ok : Words k) where

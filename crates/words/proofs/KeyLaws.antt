@@ -49,28 +49,22 @@ module _ (k : Key) (i : ℕ) where
   unfolding flipAt
   flipAt-other-word j h = getD-set-other k (i / 64) j _ 0 h
 
+  -- a word after the flip: as it was, or flipped
+  word-cases : (P : ℕ → Type 0) (j : ℕ) → P (getD k j 0) → (j ≡ i / 64 → P (flipOf (getD k j 0) (i % 64))) → P (getD (flipAt k i) j 0)
+  word-cases P j p q = go (ℕ-discrete j (i / 64)) (decLt (i / 64) (length k))
+    where
+      go : Dec (j ≡ i / 64) → Dec (i / 64 < length k) → P (getD (flipAt k i) j 0)
+      go (no n) d = subst⁻¹ P (flipAt-other-word j n) p
+      go (yes e) (yes l) = subst⁻¹ P (ap (λ (x : ℕ). getD (flipAt k i) x 0) e ∙ flipAt-word l ∙ ap (λ (x : ℕ). flipOf (getD k x 0) (i % 64)) (sym e)) (q e)
+      go (yes e) (no l) = subst⁻¹ (λ (x : Key). P (getD x j 0)) (flipAt-out (omega arith)) p
+
   pub bitAt-flip-other : (j : ℕ) → j ≢ i → bitAt (flipAt k i) j ≡ bitAt k j
   unfolding bitAt
-  bitAt-flip-other j h = go (ℕ-discrete (j / 64) (i / 64)) (decLt (i / 64) (length k))
-    where
-      go : Dec (j / 64 ≡ i / 64) → Dec (i / 64 < length k) → bitAt (flipAt k i) j ≡ bitAt k j
-      go (no n) d = ap (λ (x : ℕ). bitOf x (j % 64)) (flipAt-other-word (j / 64) n)
-      go (yes e) (yes l) =
-          ap (λ (x : ℕ). bitOf (getD (flipAt k i) x 0) (j % 64)) e
-          ∙ ap (λ (x : ℕ). bitOf x (j % 64)) (flipAt-word l)
-          ∙ bit-flip-other (getD k (i / 64) 0) (i % 64) (j % 64) (λ m. h (omega arith))
-          ∙ ap (λ (x : ℕ). bitOf (getD k x 0) (j % 64)) (sym e)
-      go (yes e) (no l) = ap (λ (x : Key). bitAt x j) (flipAt-out (omega arith))
+  bitAt-flip-other j h =
+      word-cases (λ v. bitOf v (j % 64) ≡ bitAt k j) (j / 64) refl (λ e. bit-flip-other (getD k (j / 64) 0) (i % 64) (j % 64) (λ m. h (omega arith)))
 
   pub flipAt-words : Words k → Words (flipAt k i)
-  flipAt-words ok j = go (ℕ-discrete j (i / 64)) (decLt (i / 64) (length k))
-    where
-      go : Dec (j ≡ i / 64) → Dec (i / 64 < length k) → getD (flipAt k i) j 0 < 2 ^ 64
-      go (no n) d = subst⁻¹ (λ (x : ℕ). x < 2 ^ 64) (flipAt-other-word j n) (ok j)
-      go (yes e) (yes l) =
-          subst⁻¹ (λ (x : ℕ). getD (flipAt k i) x 0 < 2 ^ 64) e
-          (subst⁻¹ (λ (x : ℕ). x < 2 ^ 64) (flipAt-word l) (flip-lt (getD k (i / 64) 0) (i % 64) 64 (omega arith) (ok (i / 64))))
-      go (yes e) (no l) = subst⁻¹ (λ (x : Key). getD x j 0 < 2 ^ 64) (flipAt-out (omega arith)) (ok j)
+  flipAt-words ok j = word-cases (λ v. v < 2 ^ 64) j (ok j) (λ e. flip-lt (getD k j 0) (i % 64) 64 (omega arith) (ok j))
 
 pub key-ext : (k l : Key) → length k ≡ length l → Words k → Words l → ((i : ℕ) → bitAt k i ≡ bitAt l i) → k ≡ l
 unfolding bitAt
@@ -139,16 +133,15 @@ module _ (k : Key) (i : ℕ) where
   pub setAt-clear : bitAt k i ≡ false → flipAt k i ≡ setAt k i
   setAt-clear e = ap (λ (t : Bool). cond t k (flipAt k i)) (sym e)
 
-  pub setAt-length : length (setAt k i) ≡ length k
-  setAt-length = go (bitAt k i)
+  pub setAt-keeps : (P : Key → Type 0) → P k → P (flipAt k i) → P (setAt k i)
+  setAt-keeps P p q = go (bitAt k i)
     where
-      go : (t : Bool) → length (cond t k (flipAt k i)) ≡ length k
-      go true = refl
-      go false = flipAt-length k i
+      go : (t : Bool) → P (cond t k (flipAt k i))
+      go true = p
+      go false = q
+
+  pub setAt-length : length (setAt k i) ≡ length k
+  setAt-length = setAt-keeps (λ l. length l ≡ length k) refl (flipAt-length k i)
 
   pub setAt-words : Words k → Words (setAt k i)
-  setAt-words ok = go (bitAt k i)
-    where
-      go : (t : Bool) → Words (cond t k (flipAt k i))
-      go true = ok
-      go false = flipAt-words k i ok
+  setAt-words ok = setAt-keeps Words ok (flipAt-words k i ok)

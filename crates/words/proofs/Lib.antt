@@ -7,4 +7,5 @@ pub mod GateLaws
 pub mod InverseLaws
 pub mod ProductLaws
 pub mod RowSteps
+pub mod RowLaws
 mod Place

@@ -3,7 +3,7 @@ use Prim.Native.Nat.{ℕ, zero, suc, _+_, _-_, _*_, _/_, _≤_, _<_}
 use mathlib.Core.Path.{_≡_, sym, ap, _∙_, subst}
 use mathlib.Core.Bool.{Bool, cond}
 use mathlib.Core.List.{List, _++_}
-use native.Mathlib.Nat.{div-zero, le-div-iff-mul-le, suc-mul, add-sub-cancel-left, not-suc-le-zero, div-eq-of-lt}
+use native.Mathlib.Nat.{div-zero, le-div-iff-mul-le, suc-mul, add-sub-cancel-left, div-eq-of-lt}
 use native.Mathlib.Omega.{arith}
 use lib.ListN.{take, drop}
 use lib.Seq.{drop-drop}
@@ -12,9 +12,12 @@ use Rattle.words.specs.declared.Gate.{Gate}
 use Rattle.words.specs.Gates.{bitsAt, conjKey, conjPhase}
 use Rattle.words.specs.Rows.{rowCount, rowAt, withRow, conjRow, phaseRow}
 
+pub rows-fit : (n w l : ℕ) → n ≤ l / (2 * w) → n * (2 * w) ≤ l
+rows-fit n zero l h = let z : n ≤ 0 = subst (λ (x : ℕ). n ≤ x) (div-zero l) h in omega arith
+rows-fit n (suc w) l h = let p : 0 < 2 * suc w = omega arith in le-div-iff-mul-le p .0 h
+
 pub row-fits : (n w r : ℕ) → r < n / (2 * w) → r * (2 * w) + 2 * w ≤ n
-row-fits n zero r h = absurd (not-suc-le-zero (subst (λ (x : ℕ). r < x) (div-zero n) h))
-row-fits n (suc w) r h = subst (λ (x : ℕ). x ≤ n) (suc-mul r (2 * suc w)) (le-div-iff-mul-le (omega arith) .0 h)
+row-fits n w r h = subst (λ (x : ℕ). x ≤ n) (suc-mul r (2 * w)) (rows-fit (suc r) w n h)
 
 pub no-rows : (n w : ℕ) → n / 2 < w → n / (2 * w) ≡ 0
 no-rows n w h = div-eq-of-lt (omega arith)

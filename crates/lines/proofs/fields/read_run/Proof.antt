@@ -6,30 +6,6 @@ use Rattle.lines.proofs.TestLaws.{named, passed}
 use Rattle.lines.proofs.fields.read_run.Statement.{statement}
 use Rattle.lines.proofs.fields.read_run.Tie as tie
 
-returns : tie.Need-returns
-unfolding runField begins
-returns c =
-    let s = c .before .before .before .before .args .l .now in
-    named runField (bytes "run=full") s (c .before .is-text .ensures) (c .if1 .taken)
-
-returns-2 : tie.Need-returns-2
-unfolding runField begins
-returns-2 c =
-    let s = c .before .before .before .before .before .before .before .args .l .now in
-    named runField (bytes "run=cone") s (c .before .is-text2 .ensures) (c .if2 .taken)
-
-returns-3 : tie.Need-returns-3
-unfolding runField begins
-returns-3 c =
-    let s = c .before .before .before .before .before .before .before .before .before .before .args .l .now in
-    named runField (bytes "run=all") s (c .before .is-text3 .ensures) (c .if3 .taken)
-
-returns-4 : tie.Need-returns-4
-unfolding runField begins
-returns-4 c =
-    let s = c .before .before .before .before .before .before .before .before .before .before .before .before .before .args .l .now in
-    named runField (bytes "run=path") s (c .before .is-text4 .ensures) (c .if4 .taken)
-
 -- every test is passed
 returns-5 : tie.Need-returns-5
 unfolding runField
@@ -46,5 +22,16 @@ pub read-run-spec : {M : Type 1} → statement M
 read-run-spec =
     tie.close
     (tie.spec
-    (λ c. refl) (λ c κs. tt) returns (λ c. refl) (λ c κs. tt) returns-2
-    (λ c. refl) (λ c κs. tt) returns-3 (λ c. refl) (λ c κs. tt) returns-4 returns-5)
+    (λ c. refl) (λ c κs. tt)
+    (λ c. unfold runField begins in let s = c .before .before .before .before .args .l .now in
+    named runField (bytes "run=full") s (c .before .is-text .ensures) (c .if1 .taken))
+    (λ c. refl) (λ c κs. tt)
+    (λ c. unfold runField begins in let s = c .before .before .before .before .before .before .before .args .l .now in
+    named runField (bytes "run=cone") s (c .before .is-text2 .ensures) (c .if2 .taken))
+    (λ c. refl) (λ c κs. tt)
+    (λ c. unfold runField begins in let s = c .before .before .before .before .before .before .before .before .before .before .args .l .now in
+    named runField (bytes "run=all") s (c .before .is-text3 .ensures) (c .if3 .taken))
+    (λ c. refl) (λ c κs. tt)
+    (λ c. unfold runField begins in let s = c .before .before .before .before .before .before .before .before .before .before .before .before .before .args .l .now in
+    named runField (bytes "run=path") s (c .before .is-text4 .ensures) (c .if4 .taken))
+    returns-5)

@@ -5,7 +5,4 @@ use Rattle.lines.proofs.names.read_name.Tie as tie
 
 pub read-name-spec : {M : Type 1} → statement M
 unfolding nameOf
-read-name-spec =
-    tie.close
-    (tie.spec
-    (λ c κs. tt) (λ c κs. tt) (λ c κs. tt) (λ c. cc))
+read-name-spec = tie.close (tie.spec (λ c κs. tt) (λ c κs. tt) (λ c κs. tt) (λ c. cc))

@@ -7,6 +7,5 @@ pub op-with-spec : {M : Type 1} → statement M
 op-with-spec =
     tie.close
     (tie.spec
-    (λ c. search needs) (λ c. search needs) (λ c. search needs) (λ c. search needs) (λ c. search needs) (λ c. search needs)
-    (λ c κs. tt)
+    (λ c. search needs) (λ c. search needs) (λ c. search needs) (λ c. search needs) (λ c. search needs) (λ c. search needs) (λ c κs. tt)
     (λ c. rw (c .before .before .before .before .before .t .given .1, c .before .before .r .given .1) (c .op-from .ensures)))

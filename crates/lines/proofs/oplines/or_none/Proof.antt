@@ -4,7 +4,4 @@ use Rattle.lines.proofs.oplines.or_none.Statement.{statement}
 use Rattle.lines.proofs.oplines.or_none.Tie as tie
 
 pub or-none-spec : {M : Type 1} → statement M
-or-none-spec =
-    tie.close
-    (tie.spec
-    (λ c. search needs) (λ c. search needs) (λ c. search needs) (λ c. cc))
+or-none-spec = tie.close (tie.spec (λ c. search needs) (λ c. search needs) (λ c. search needs) (λ c. cc))

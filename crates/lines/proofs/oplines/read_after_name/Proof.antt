@@ -3,12 +3,6 @@ use Rattle.lines.proofs.OpLineLaws.{targets-alone, targets-reals}
 use Rattle.lines.proofs.oplines.read_after_name.Statement.{statement}
 use Rattle.lines.proofs.oplines.read_after_name.Tie as tie
 
-returns : tie.Need-returns
-returns c =
-    let two = c .before .before .before .before .has-two .ensures in
-    let count = c .before .before .before .real-count .ensures in
-    targets-alone _ _ _ two _ count _ _ (c .before .before .if1 .taken) (c .before .read-targets .ensures) (c .op-with .ensures)
-
 returns-2 : tie.Need-returns-2
 returns-2 c =
     let d = c .before .before .before .before in
@@ -23,6 +17,7 @@ read-after-name-spec =
     tie.close
     (tie.spec
     (λ c κs. tt) (λ c κs. tt) (λ c κs. tt) (λ c κs. tt)
-    returns
-    (λ c κs. tt) (λ c κs. tt) (λ c κs. tt) (λ c κs. tt) (λ c κs. tt)
-    returns-2)
+    (λ c. let two = c .before .before .before .before .has-two .ensures in
+    let count = c .before .before .before .real-count .ensures in
+    targets-alone _ _ _ two _ count _ _ (c .before .before .if1 .taken) (c .before .read-targets .ensures) (c .op-with .ensures))
+    (λ c κs. tt) (λ c κs. tt) (λ c κs. tt) (λ c κs. tt) (λ c κs. tt) returns-2)

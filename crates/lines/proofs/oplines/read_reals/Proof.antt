@@ -18,10 +18,6 @@ unfolding realsIn
 read-reals-spec =
     tie.close
     (tie.spec
-    (λ c. rw (c .if1 .taken))
-    (λ c κs. tt) (λ c κs. tt)
-    (λ c. rw (c .before .before .if2 .taken) (cc))
-    (λ c κs. tt) (λ c κs. tt) (λ c κs. tt) (λ c κs. tt) (λ c κs. tt)
-    (λ c. rw (c .before .before .if3 .taken) (cc))
-    (λ c κs. tt) (λ c κs. tt) (λ c κs. tt) (λ c κs. tt) (λ c κs. tt)
+    (λ c. rw (c .if1 .taken)) (λ c κs. tt) (λ c κs. tt) (λ c. rw (c .before .before .if2 .taken) (cc)) (λ c κs. tt) (λ c κs. tt) (λ c κs. tt)
+    (λ c κs. tt) (λ c κs. tt) (λ c. rw (c .before .before .if3 .taken) (cc)) (λ c κs. tt) (λ c κs. tt) (λ c κs. tt) (λ c κs. tt) (λ c κs. tt)
     returns-4)

@@ -23,13 +23,6 @@ Inv-loop f n rest₀ rest = below n (parts comma rest) ≡ below n (factorTexts 
 abbrev μ-loop : tie.MeasureT-loop
 μ-loop f n rest₀ rest = length rest
 
-returns : tie.Need-returns Inv-loop μ-loop
-unfolding every
-returns c = ap (below _) (texts-none _ (c .if1 .taken))
-
-loop-holds : tie.Need-loop-holds Inv-loop μ-loop
-loop-holds c = ap (below _) (texts-some _ (c .if1 .left))
-
 returns-2 : tie.Need-returns-2 Inv-loop μ-loop
 unfolding every
 returns-2 c =
@@ -46,9 +39,6 @@ returns-3 c =
     let e = ap (λ (q : ℕ). ltb q n) (sym (c .before .before .qubit-of .ensures)) ∙ lt-ltb _ _ (c .before .if2 .left) in
     at-last _ _ (d .part-before .ensures) (below n) (below n) _ (d .before .loop .inv) (λ ps. ap (λ (b : Bool). b && below n ps) e) (c .if3 .taken)
 
-loop-less : tie.Need-loop-less Inv-loop μ-loop
-loop-less c = left-less _ _ (c .before .before .before .before .part-before .ensures) (c .before .if3 .left) _ (c .part-after .ensures)
-
 loop-again : tie.Need-loop-again Inv-loop μ-loop
 unfolding every
 loop-again c =
@@ -61,5 +51,7 @@ loop-again c =
 pub are-below-spec : {M : Type 1} → statement M
 are-below-spec =
     tie.close
-    (tie.spec Inv-loop μ-loop returns loop-holds (λ c κs. search needs) (λ c κs. search needs) returns-2 returns-3 (λ c κs. search needs) loop-less
-    loop-again)
+    (tie.spec
+    Inv-loop μ-loop (λ c. unfold every in ap (below _) (texts-none _ (c .if1 .taken))) (λ c. ap (below _) (texts-some _ (c .if1 .left)))
+    (λ c κs. search needs) (λ c κs. search needs) returns-2 returns-3 (λ c κs. search needs)
+    (λ c. left-less _ _ (c .before .before .before .before .part-before .ensures) (c .before .if3 .left) _ (c .part-after .ensures)) loop-again)

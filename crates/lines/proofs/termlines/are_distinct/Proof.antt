@@ -25,13 +25,6 @@ Inv-loop f seen₀ rest₀ seen rest = fresh seen (qubits (parts comma rest)) �
 abbrev μ-loop : tie.MeasureT-loop
 μ-loop f seen₀ rest₀ seen rest = length rest
 
-returns : tie.Need-returns Inv-loop μ-loop
-unfolding every distinct
-returns c = ap told (texts-none _ (c .if1 .taken))
-
-loop-holds : tie.Need-loop-holds Inv-loop μ-loop
-loop-holds c = fresh-start _ ∙ ap told (texts-some _ (c .if1 .left))
-
 returns-2 : tie.Need-returns-2 Inv-loop μ-loop
 returns-2 c =
     let d = c .before .before in
@@ -55,9 +48,6 @@ returns-4 c =
     (λ ps. fresh-next (l .seen) _ _ (c .before .before .before .qubit-of .ensures) (c .before .before .if2 .left) (c .before .if3 .left) (qubits ps))
     (c .if4 .taken)
 
-loop-less : tie.Need-loop-less Inv-loop μ-loop
-loop-less c = left-less _ _ (c .before .before .before .before .before .part-before .ensures) (c .before .if4 .left) _ (c .part-after .ensures)
-
 loop-again : tie.Need-loop-again Inv-loop μ-loop
 loop-again c =
     let s = c .before .before in
@@ -70,5 +60,9 @@ loop-again c =
 pub are-distinct-spec : {M : Type 1} → statement M
 are-distinct-spec =
     tie.close
-    (tie.spec Inv-loop μ-loop returns loop-holds (λ c κs. search needs) (λ c κs. search needs) returns-2 (λ c. search needs) returns-3 (λ c. search needs)
-    returns-4 (λ c κs. search needs) loop-less loop-again)
+    (tie.spec
+    Inv-loop μ-loop (λ c. unfold every distinct in ap told (texts-none _ (c .if1 .taken)))
+    (λ c. fresh-start _ ∙ ap told (texts-some _ (c .if1 .left))) (λ c κs. search needs) (λ c κs. search needs) returns-2 (λ c. search needs)
+    returns-3 (λ c. search needs) returns-4 (λ c κs. search needs)
+    (λ c. left-less _ _ (c .before .before .before .before .before .part-before .ensures) (c .before .if4 .left) _ (c .part-after .ensures))
+    loop-again)

@@ -16,30 +16,6 @@ Inv-loop f rest₀ rest = areFactors (parts comma rest) ≡ areFactors (factorTe
 abbrev μ-loop : tie.MeasureT-loop
 μ-loop f rest₀ rest = length rest
 
-returns : tie.Need-returns Inv-loop μ-loop
-unfolding areFactors
-returns c = ap areFactors (texts-none _ (c .if1 .taken))
-
-loop-holds : tie.Need-loop-holds Inv-loop μ-loop
-loop-holds c = ap areFactors (texts-some _ (c .if1 .left))
-
-returns-2 : tie.Need-returns-2 Inv-loop μ-loop
-unfolding areFactors
-returns-2 c =
-    let d = c .before .before in
-    let e = sym (c .before .is-factor .ensures) ∙ not-true _ (c .if2 .taken) in
-    at-stop _ _ (d .part-before .ensures) areFactors _ (d .before .loop .inv) false (λ ps. ap (λ (b : Bool). b && areFactors ps) e)
-
-returns-3 : tie.Need-returns-3 Inv-loop μ-loop
-unfolding areFactors
-returns-3 c =
-    let d = c .before .before .before in
-    let e = sym (c .before .before .is-factor .ensures) ∙ not-false _ (c .before .if2 .left) in
-    at-last _ _ (d .part-before .ensures) areFactors areFactors _ (d .before .loop .inv) (λ ps. ap (λ (b : Bool). b && areFactors ps) e) (c .if3 .taken)
-
-loop-less : tie.Need-loop-less Inv-loop μ-loop
-loop-less c = left-less _ _ (c .before .before .before .before .part-before .ensures) (c .before .if3 .left) _ (c .part-after .ensures)
-
 loop-again : tie.Need-loop-again Inv-loop μ-loop
 unfolding areFactors
 loop-again c =
@@ -51,5 +27,14 @@ loop-again c =
 pub are-factors-spec : {M : Type 1} → statement M
 are-factors-spec =
     tie.close
-    (tie.spec Inv-loop μ-loop returns loop-holds (λ c κs. search needs) (λ c κs. search needs) returns-2 returns-3 (λ c κs. search needs) loop-less
-    loop-again)
+    (tie.spec
+    Inv-loop μ-loop (λ c. unfold areFactors in ap areFactors (texts-none _ (c .if1 .taken))) (λ c. ap areFactors (texts-some _ (c .if1 .left)))
+    (λ c κs. search needs) (λ c κs. search needs)
+    (λ c. unfold areFactors in let d = c .before .before in
+    let e = sym (c .before .is-factor .ensures) ∙ not-true _ (c .if2 .taken) in
+    at-stop _ _ (d .part-before .ensures) areFactors _ (d .before .loop .inv) false (λ ps. ap (λ (b : Bool). b && areFactors ps) e))
+    (λ c. unfold areFactors in let d = c .before .before .before in
+    let e = sym (c .before .before .is-factor .ensures) ∙ not-false _ (c .before .if2 .left) in
+    at-last _ _ (d .part-before .ensures) areFactors areFactors _ (d .before .loop .inv) (λ ps. ap (λ (b : Bool). b && areFactors ps) e) (c .if3 .taken))
+    (λ c κs. search needs)
+    (λ c. left-less _ _ (c .before .before .before .before .part-before .ensures) (c .before .if3 .left) _ (c .part-after .ensures)) loop-again)

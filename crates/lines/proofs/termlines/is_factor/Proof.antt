@@ -7,19 +7,13 @@ use Rattle.lines.proofs.FactorLaws.{factor-low, factor-high, factor-dig
 use Rattle.lines.proofs.termlines.is_factor.Statement.{statement}
 use Rattle.lines.proofs.termlines.is_factor.Tie as tie
 
-returns : tie.Need-returns
-returns c = factor-low _ _ (c .before .first-byte .ensures) (c .if1 .taken)
-
-returns-2 : tie.Need-returns-2
-returns-2 c = factor-high _ _ (c .before .before .first-byte .ensures) (c .before .if1 .left) (c .if2 .taken)
-
-returns-3 : tie.Need-returns-3
-returns-3 c =
-    let d = c .before .before .before in
-    factor-digits _ _ (d .before .before .first-byte .ensures) (d .before .if1 .left) (d .if2 .left) _
-    (c .is-number .ensures ∙ ap isNumber (c .before .read-decimal .ensures ∙ ap decimal (c .before .before .part-from .ensures)))
-
 pub is-factor-spec : {M : Type 1} → statement M
 is-factor-spec =
     tie.close
-    (tie.spec (λ c κs. search needs) returns returns-2 (λ c κs. search needs) (λ c κs. search needs) (λ c κs. search needs) returns-3)
+    (tie.spec
+    (λ c κs. search needs) (λ c. factor-low _ _ (c .before .first-byte .ensures) (c .if1 .taken))
+    (λ c. factor-high _ _ (c .before .before .first-byte .ensures) (c .before .if1 .left) (c .if2 .taken)) (λ c κs. search needs)
+    (λ c κs. search needs) (λ c κs. search needs)
+    (λ c. let d = c .before .before .before in
+    factor-digits _ _ (d .before .before .first-byte .ensures) (d .before .if1 .left) (d .if2 .left) _
+    (c .is-number .ensures ∙ ap isNumber (c .before .read-decimal .ensures ∙ ap decimal (c .before .before .part-from .ensures)))))

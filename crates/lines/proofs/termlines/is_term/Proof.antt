@@ -11,15 +11,6 @@ use Rattle.lines.proofs.FactorLaws.{term-none, term-bad, term-good}
 use Rattle.lines.proofs.termlines.is_term.Statement.{statement}
 use Rattle.lines.proofs.termlines.is_term.Tie as tie
 
-returns : tie.Need-returns
-returns c = term-none _ _ (c .before .find .ensures) (c .if1 .taken)
-
-returns-2 : tie.Need-returns-2
-returns-2 c =
-    let d = c .before .before .before in
-    term-bad _ _ (d .before .before .find .ensures) (d .before .if1 .left) _
-    (c .before .is-real .ensures ∙ ap isReal (c .before .before .read-real .ensures ∙ ap real (d .part-before .ensures))) (not-true _ (c .if2 .taken))
-
 returns-3 : tie.Need-returns-3
 returns-3 c =
     let b = c .before .before in
@@ -31,5 +22,10 @@ returns-3 c =
 pub is-term-spec : {M : Type 1} → statement M
 is-term-spec =
     tie.close
-    (tie.spec (λ c κs. search needs) returns (λ c κs. search needs) (λ c κs. search needs) (λ c κs. search needs) returns-2 (λ c κs. search needs)
-    (λ c κs. search needs) returns-3)
+    (tie.spec
+    (λ c κs. search needs) (λ c. term-none _ _ (c .before .find .ensures) (c .if1 .taken)) (λ c κs. search needs) (λ c κs. search needs)
+    (λ c κs. search needs)
+    (λ c. let d = c .before .before .before in
+    term-bad _ _ (d .before .before .find .ensures) (d .before .if1 .left) _
+    (c .before .is-real .ensures ∙ ap isReal (c .before .before .read-real .ensures ∙ ap real (d .part-before .ensures))) (not-true _ (c .if2 .taken)))
+    (λ c κs. search needs) (λ c κs. search needs) returns-3)

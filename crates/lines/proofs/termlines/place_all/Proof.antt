@@ -22,13 +22,6 @@ Inv-loop f w key₀ rest₀ key rest = full w key (parts comma rest) ≡ full w 
 abbrev μ-loop : tie.MeasureT-loop
 μ-loop f w key₀ rest₀ key rest = length rest
 
-returns : tie.Need-returns Inv-loop μ-loop
-unfolding foldl
-returns c = ap (full _ _) (texts-none _ (c .if1 .taken))
-
-loop-holds : tie.Need-loop-holds Inv-loop μ-loop
-loop-holds c = ap (full _ _) (texts-some _ (c .if1 .left))
-
 returns-2 : tie.Need-returns-2 Inv-loop μ-loop
 unfolding foldl
 returns-2 c =
@@ -38,12 +31,6 @@ returns-2 c =
     let w : ℕ = d .before .before .before .before .before .args .w in
     at-last _ _ (d .part-before .ensures) (full w (l .key)) (full w _) _ (l .inv) (λ ps. ap (λ (k : Key). full w k ps) (sym (p .place-factor .ensures)))
     (c .if2 .taken)
-
-same-length : tie.Need-same-length Inv-loop μ-loop
-same-length c = ap length (returns-2 c) ∙ length-all _ _ _
-
-loop-less : tie.Need-loop-less Inv-loop μ-loop
-loop-less c = left-less _ _ (c .before .before .before .before .before .before .part-before .ensures) (c .before .if2 .left) _ (c .part-after .ensures)
 
 loop-again : tie.Need-loop-again Inv-loop μ-loop
 unfolding foldl
@@ -58,5 +45,8 @@ loop-again c =
 pub place-all-spec : {M : Type 1} → statement M
 place-all-spec =
     tie.close
-    (tie.spec Inv-loop μ-loop returns loop-holds (λ c κs. search needs) (λ c κs. search needs) same-length returns-2 (λ c κs. search needs) loop-less
+    (tie.spec
+    Inv-loop μ-loop (λ c. unfold foldl in ap (full _ _) (texts-none _ (c .if1 .taken))) (λ c. ap (full _ _) (texts-some _ (c .if1 .left)))
+    (λ c κs. search needs) (λ c κs. search needs) (λ c. ap length (returns-2 c) ∙ length-all _ _ _) returns-2 (λ c κs. search needs)
+    (λ c. left-less _ _ (c .before .before .before .before .before .before .part-before .ensures) (c .before .if2 .left) _ (c .part-after .ensures))
     loop-again)

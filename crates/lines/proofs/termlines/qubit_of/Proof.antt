@@ -4,9 +4,5 @@ use Rattle.lines.specs.TermLines.{factorOf}
 use Rattle.lines.proofs.termlines.qubit_of.Statement.{statement}
 use Rattle.lines.proofs.termlines.qubit_of.Tie as tie
 
-returns : tie.Need-returns
-unfolding factorOf
-returns c = cc
-
 pub qubit-of-spec : {M : Type 1} → statement M
-qubit-of-spec = tie.close (tie.spec (λ c κs. search needs) (λ c κs. search needs) (λ c κs. search needs) returns)
+qubit-of-spec = tie.close (tie.spec (λ c κs. search needs) (λ c κs. search needs) (λ c κs. search needs) (λ c. unfold factorOf in cc))

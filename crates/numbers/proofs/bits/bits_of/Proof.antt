@@ -8,15 +8,9 @@ use borrow.Author.Needs.{needs}
 use Rattle.numbers.proofs.bits.bits_of.Statement.{statement}
 use Rattle.numbers.proofs.bits.bits_of.Tie as tie
 
-returns : tie.Need-returns
-unfolding toBits
-returns c = sym (ap (toBits binary64) (differs-from-itself (c .before .args .x) (holds (c .if1 .taken))))
-
-float-to-bits-result : tie.Need-float-to-bits-result
-float-to-bits-result c = itself-no-nan (c .before .args .x) (c .if1 .left)
-
-returns-2 : tie.Need-returns-2
-returns-2 c = search needs
-
 pub bits-of-spec : {M : Type 1} → statement M
-bits-of-spec = tie.close (tie.spec returns float-to-bits-result returns-2)
+bits-of-spec =
+    tie.close
+    (tie.spec
+    (λ c. unfold toBits in sym (ap (toBits binary64) (differs-from-itself (c .before .args .x) (holds (c .if1 .taken)))))
+    (λ c. itself-no-nan (c .before .args .x) (c .if1 .left)) (λ c. search needs))

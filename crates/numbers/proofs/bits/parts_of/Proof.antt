@@ -10,15 +10,6 @@ use borrow.Author.Needs.{needs}
 use Rattle.numbers.proofs.bits.parts_of.Statement.{statement}
 use Rattle.numbers.proofs.bits.parts_of.Tie as tie
 
-float-to-bits-bits : tie.Need-float-to-bits-bits
-float-to-bits-bits c = finite-no-nan (c .args .x) (c .pre)
-
-add-t9 : tie.Need-add-t9
-add-t9 c = search needs
-
-sub-t10 : tie.Need-sub-t10
-sub-t10 c = search needs
-
 returns : tie.Need-returns
 returns c =
     let at = c .before in
@@ -58,4 +49,4 @@ returns-2 c =
     small b = omega arith
 
 pub parts-of-spec : {M : Type 1} → statement M
-parts-of-spec = tie.close (tie.spec float-to-bits-bits add-t9 sub-t10 returns returns-2)
+parts-of-spec = tie.close (tie.spec (λ c. finite-no-nan (c .args .x) (c .pre)) (λ c. search needs) (λ c. search needs) returns returns-2)

@@ -6,14 +6,8 @@ use borrow.Author.Needs.{needs}
 use Rattle.numbers.proofs.bits.printed_bits.Statement.{statement}
 use Rattle.numbers.proofs.bits.printed_bits.Tie as tie
 
-bits-of-requires : tie.Need-bits-of-requires
-bits-of-requires c κs = search needs
-
-returns : tie.Need-returns
-returns c = sym (ap (λ (b : Bool). cond b 0 (toBits binary64 (c .before .before .args .x))) (c .if1 .taken))
-
-returns-2 : tie.Need-returns-2
-returns-2 c = cc
-
 pub printed-bits-spec : {M : Type 1} → statement M
-printed-bits-spec = tie.close (tie.spec bits-of-requires returns returns-2)
+printed-bits-spec =
+    tie.close
+    (tie.spec
+    (λ c κs. search needs) (λ c. sym (ap (λ (b : Bool). cond b 0 (toBits binary64 (c .before .before .args .x))) (c .if1 .taken))) (λ c. cc))

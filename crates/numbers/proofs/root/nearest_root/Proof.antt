@@ -46,35 +46,11 @@ module _ (c : tie.After-root-on) where
   below : half * 2 ^ 52 + (q + 1) < 0x7ff0_0000_0000_0000
   below = omega (arith, hi, c .before .before .pre .2)
 
-root-of-requires : tie.Need-root-of-requires
-root-of-requires c κs = search needs
-
 root-on-requires : tie.Need-root-on-requires
 root-on-requires c κs = (
   c .root-of .ensures .small,
   root-lt (c .before .args .lead) (2 ^ 27) (c .root-of .ensures) (omega arith),
 )
-
-mul-result : tie.Need-mul-result
-mul-result c = search needs
-
-add-result : tie.Need-add-result
-add-result c = omega (arith, hi (c .before .before .before))
-
-add-result-2 : tie.Need-add-result-2
-add-result-2 c = omega (arith, below (c .before .before .before))
-
-float-from-bits-result : tie.Need-float-from-bits-result
-float-from-bits-result c = no-nan-bits _ (omega (arith, below (c .before .before .before)))
-
-mul-result-2 : tie.Need-mul-result-2
-mul-result-2 c = search needs
-
-add-result-3 : tie.Need-add-result-3
-add-result-3 c = omega (arith, below (c .before .before .before))
-
-float-from-bits-result-2 : tie.Need-float-from-bits-result-2
-float-from-bits-result-2 c = no-nan-bits _ (omega (arith, below (c .before .before .before)))
 
 returns : tie.Need-returns
 returns c =
@@ -85,24 +61,14 @@ returns c =
     ∙ ap (λ (n : ℕ). units binary64 false n (half at)) (add-one (q at))
     ∙ sym (nearest-up (lead at * 2 ^ 52) (half at) (q at) (rest at) (known at) (lo at) (hi at) more)
 
-returns-2 : tie.Need-returns-2
-returns-2 c =
-    let at = c .before .before .before in
-    units-bits (q at) (half at) (lo at) (hi at) (few at)
-    ∙ sym (nearest-down (lead at * 2 ^ 52) (half at) (q at) (rest at) (known at) (lo at) (hi at) (c .before .if1 .left))
-
 pub nearest-root-spec : {M : Type 1} → statement M
 nearest-root-spec =
     tie.close
     (tie.spec
-    root-of-requires
-    root-on-requires
-    mul-result
-    add-result
-    add-result-2
-    float-from-bits-result
-    mul-result-2
-    add-result-3
-    float-from-bits-result-2
-    returns
-    returns-2)
+    (λ c κs. search needs) root-on-requires (λ c. search needs) (λ c. omega (arith, hi (c .before .before .before)))
+    (λ c. omega (arith, below (c .before .before .before))) (λ c. no-nan-bits _ (omega (arith, below (c .before .before .before))))
+    (λ c. search needs) (λ c. omega (arith, below (c .before .before .before)))
+    (λ c. no-nan-bits _ (omega (arith, below (c .before .before .before)))) returns
+    (λ c. let at = c .before .before .before in
+    units-bits (q at) (half at) (lo at) (hi at) (few at)
+    ∙ sym (nearest-down (lead at * 2 ^ 52) (half at) (q at) (rest at) (known at) (lo at) (hi at) (c .before .if1 .left))))

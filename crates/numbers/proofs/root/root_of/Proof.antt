@@ -14,18 +14,6 @@ Inv-loop n a₀ i₀ a i = (i ≤ 27) × IsRoot (n / 2 ^ (2 * i)) (a .root) (a .
 abbrev μ-loop : tie.MeasureT-loop
 μ-loop n a₀ i₀ a i = i
 
-loop-holds : tie.Need-loop-holds Inv-loop μ-loop
-loop-holds c = (le-refl 27, record { whole = sym (div-eq-of-lt (c .pre)); small = le-refl 0 })
-
-sub-i : tie.Need-sub-i Inv-loop μ-loop
-sub-i c = omega arith
-
-mul-root-step : tie.Need-mul-root-step Inv-loop μ-loop
-mul-root-step c = omega arith
-
-shr-root-step : tie.Need-shr-root-step Inv-loop μ-loop
-shr-root-step c = omega arith
-
 root-step-requires : tie.Need-root-step-requires Inv-loop μ-loop
 root-step-requires c κs =
     let n = c .before .before .args .n in
@@ -34,9 +22,6 @@ root-step-requires c κs =
       root-lt (n / 2 ^ (2 * i)) (2 ^ 60) (c .before .loop .inv .1) (lt-of-le-of-lt (div-le-self n (2 ^ (2 * i))) (omega arith)),
       omega arith,
     )
-
-loop-less : tie.Need-loop-less Inv-loop μ-loop
-loop-less c = omega arith
 
 loop-again : tie.Need-loop-again Inv-loop μ-loop
 loop-again c =
@@ -47,23 +32,12 @@ loop-again c =
     let was : a .root * a .root + a .rest ≡ n / 2 ^ (2 * (i - 1 + 1)) = c .before .before .loop .inv .1 .whole ∙ ap (λ (k : ℕ). n / 2 ^ (2 * k)) (sym back) in
     (omega arith, root-at (c .root-step .ensures) (ap (λ (y : ℕ). y * 4 + n / 2 ^ (2 * (i - 1)) % 4) was ∙ two-digits n (i - 1)))
 
-returns : tie.Need-returns Inv-loop μ-loop
-returns c =
-    let n = c .before .before .args .n in
-    let done : c .before .loop .i ≡ 0 = omega arith in
-    root-at (c .before .loop .inv .1) (ap (λ (k : ℕ). n / 2 ^ (2 * k)) done ∙ div-one n)
-
 pub root-of-spec : {M : Type 1} → statement M
 root-of-spec =
     tie.close
     (tie.spec
-    Inv-loop
-    μ-loop
-    loop-holds
-    sub-i
-    mul-root-step
-    shr-root-step
-    root-step-requires
-    loop-less
-    loop-again
-    returns)
+    Inv-loop μ-loop (λ c. (le-refl 27, record { whole = sym (div-eq-of-lt (c .pre)); small = le-refl 0 })) (λ c. omega arith) (λ c. omega arith)
+    (λ c. omega arith) root-step-requires (λ c. omega arith) loop-again
+    (λ c. let n = c .before .before .args .n in
+    let done : c .before .loop .i ≡ 0 = omega arith in
+    root-at (c .before .loop .inv .1) (ap (λ (k : ℕ). n / 2 ^ (2 * k)) done ∙ div-one n)))

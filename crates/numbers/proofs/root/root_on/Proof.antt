@@ -15,9 +15,6 @@ Inv-loop b₀ i₀ b i = (i ≤ 26) × IsRoot ((b₀ .root * b₀ .root + b₀ .
 abbrev μ-loop : tie.MeasureT-loop
 μ-loop b₀ i₀ b i = 26 - i
 
-loop-holds : tie.Need-loop-holds Inv-loop μ-loop
-loop-holds c = (omega arith, record { whole = sym (mul-one (c .args .a .root * c .args .a .root + c .args .a .rest)); small = c .pre .0 })
-
 root-step-requires : tie.Need-root-step-requires Inv-loop μ-loop
 root-step-requires c κs =
     let a = c .before .before .args .a in
@@ -31,12 +28,6 @@ root-step-requires c κs =
       omega arith,
     )
 
-add-i : tie.Need-add-i Inv-loop μ-loop
-add-i c = omega arith
-
-loop-less : tie.Need-loop-less Inv-loop μ-loop
-loop-less c = omega arith
-
 loop-again : tie.Need-loop-again Inv-loop μ-loop
 loop-again c =
     let a = c .before .before .before .args .a in
@@ -49,13 +40,13 @@ loop-again c =
     add-zero ((b .root * b .root + b .rest) * 4) ∙ ap (λ (y : ℕ). y * 4) was ∙ mul-assoc n (4 ^ i) 4 ∙ ap (λ (y : ℕ). n * y) (sym up) in
     (omega arith, root-at (c .root-step .ensures) z)
 
-returns : tie.Need-returns Inv-loop μ-loop
-returns c =
-    let a = c .before .before .args .a in
-    let done : c .before .loop .i ≡ 26 = omega arith in
-    root-at (c .before .loop .inv .1) (ap (λ (k : ℕ). (a .root * a .root + a .rest) * 4 ^ k) done)
-
 pub root-on-spec : {M : Type 1} → statement M
 root-on-spec =
     tie.close
-    (tie.spec Inv-loop μ-loop loop-holds root-step-requires add-i loop-less loop-again returns)
+    (tie.spec
+    Inv-loop μ-loop
+    (λ c. (omega arith, record { whole = sym (mul-one (c .args .a .root * c .args .a .root + c .args .a .rest)); small = c .pre .0 }))
+    root-step-requires (λ c. omega arith) (λ c. omega arith) loop-again
+    (λ c. let a = c .before .before .args .a in
+    let done : c .before .loop .i ≡ 26 = omega arith in
+    root-at (c .before .loop .inv .1) (ap (λ (k : ℕ). (a .root * a .root + a .rest) * 4 ^ k) done)))

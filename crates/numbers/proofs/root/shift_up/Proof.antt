@@ -18,21 +18,6 @@ abbrev μ-loop : tie.MeasureT-loop
 few : (m by digits : ℕ) → 0 < m → digits ≡ m * 2 ^ by → digits < 2 ^ 53 → by < 53
 few m by digits p e h = pow-lt-back by 53 (lt-of-le-of-lt (le-trans (le-of-eq (sym (one-mul (2 ^ by)))) (le-trans (mul-le-mul-right (2 ^ by) p) (le-of-eq (sym e)))) h)
 
-loop-holds : tie.Need-loop-holds Inv-loop μ-loop
-loop-holds c = (sym (mul-one (c .args .m)), c .pre .0, c .pre .1)
-
-mul-digits : tie.Need-mul-digits Inv-loop μ-loop
-mul-digits c = omega arith
-
-add-by : tie.Need-add-by Inv-loop μ-loop
-add-by c =
-    let at = c .before in
-    let l : at .loop .by < 53 = few (at .before .args .m) (at .loop .by) (at .loop .digits) (at .before .pre .0) (at .loop .inv .0) (at .loop .inv .2) in
-    omega arith
-
-loop-less : tie.Need-loop-less Inv-loop μ-loop
-loop-less c = omega arith
-
 loop-again : tie.Need-loop-again Inv-loop μ-loop
 loop-again c =
     let at = c .before in
@@ -54,4 +39,10 @@ returns c =
 
 pub shift-up-spec : {M : Type 1} → statement M
 shift-up-spec =
-    tie.close (tie.spec Inv-loop μ-loop loop-holds mul-digits add-by loop-less loop-again returns)
+    tie.close
+    (tie.spec
+    Inv-loop μ-loop (λ c. (sym (mul-one (c .args .m)), c .pre .0, c .pre .1)) (λ c. omega arith)
+    (λ c. let at = c .before in
+    let l : at .loop .by < 53 = few (at .before .args .m) (at .loop .by) (at .loop .digits) (at .before .pre .0) (at .loop .inv .0) (at .loop .inv .2) in
+    omega arith)
+    (λ c. omega arith) loop-again returns)

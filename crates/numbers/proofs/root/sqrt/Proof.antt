@@ -10,18 +10,6 @@ use borrow.Author.Needs.{needs}
 use Rattle.numbers.proofs.root.sqrt.Statement.{statement}
 use Rattle.numbers.proofs.root.sqrt.Tie as tie
 
-returns : tie.Need-returns
-returns c =
-    let x = c .before .args .x in
-    let z = equal-zero x (holds (c .before .good .0 .1)) (c .if1 .taken) in
-    of-zero x (z .0) (z .1)
-
-is-finite-requires : tie.Need-is-finite-requires
-is-finite-requires c κs = search needs
-
-parts-of-requires : tie.Need-parts-of-requires
-parts-of-requires c κs = search needs
-
 shift-up-requires : tie.Need-shift-up-requires
 shift-up-requires c κs =
     let p = c .parts-of .result in
@@ -30,15 +18,6 @@ shift-up-requires c κs =
       first-pos (p .digits) (2 ^ (p .power)) (above-value x (p .minus) (p .digits * 2 ^ (p .power)) (c .before .before .before .if2 .taken) (v .value)),
       v .digits,
     )
-
-add-root-at : tie.Need-add-root-at
-add-root-at c = search needs
-
-sub-root-at : tie.Need-sub-root-at
-sub-root-at c = search needs
-
-root-at-requires : tie.Need-root-at-requires
-root-at-requires c κs = search needs
 
 returns-2 : tie.Need-returns-2
 returns-2 c =
@@ -50,26 +29,14 @@ returns-2 c =
     ∙ ap nearestRoot (scaled (p .digits) (p .power) (s .result .by) (s .result .digits) (s .ensures .0) (s .ensures .3))
     ∙ sym (of-finite x (p .minus) (p .digits * 2 ^ (p .power)) (at .before .before .before .if2 .taken) (at .parts-of .ensures .value))
 
-returns-3 : tie.Need-returns-3
-returns-3 c =
-    let at = c .before .before in
-    of-infinite (at .before .before .args .x) (at .if2 .taken) (sym (c .before .is-finite .ensures) ∙ c .if3 .left)
-
-returns-4 : tie.Need-returns-4
-unfolding ofBits div
-returns-4 c = of-minus (c .before .before .args .x) (c .before .if1 .left) (c .if2 .left)
-
 pub sqrt-spec : {M : Type 1} → statement M
 sqrt-spec =
     tie.close
     (tie.spec
-    returns
-    is-finite-requires
-    parts-of-requires
-    shift-up-requires
-    add-root-at
-    sub-root-at
-    root-at-requires
-    returns-2
-    returns-3
-    returns-4)
+    (λ c. let x = c .before .args .x in
+    let z = equal-zero x (holds (c .before .good .0 .1)) (c .if1 .taken) in
+    of-zero x (z .0) (z .1))
+    (λ c κs. search needs) (λ c κs. search needs) shift-up-requires (λ c. search needs) (λ c. search needs) (λ c κs. search needs) returns-2
+    (λ c. let at = c .before .before in
+    of-infinite (at .before .before .args .x) (at .if2 .taken) (sym (c .before .is-finite .ensures) ∙ c .if3 .left))
+    (λ c. unfold ofBits div in of-minus (c .before .before .args .x) (c .before .if1 .left) (c .if2 .left)))

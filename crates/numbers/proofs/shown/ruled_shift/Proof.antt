@@ -4,14 +4,9 @@ use borrow.Author.Needs.{needs}
 use Rattle.numbers.proofs.shown.ruled_shift.Statement.{statement}
 use Rattle.numbers.proofs.shown.ruled_shift.Tie as tie
 
-shr-result : tie.Need-shr-result
-shr-result c = search needs
-
-returns : tie.Need-returns
-returns c = ruled-shift (c .before .args .n) (c .before .args .by)
-
-returns-2 : tie.Need-returns-2
-returns-2 c = ruled-small (c .before .args .n) (c .before .args .by) (c .before .pre) (c .if1 .left)
-
 pub ruled-shift-spec : {M : Type 1} → statement M
-ruled-shift-spec = tie.close (tie.spec shr-result returns returns-2)
+ruled-shift-spec =
+    tie.close
+    (tie.spec
+    (λ c. search needs) (λ c. ruled-shift (c .before .args .n) (c .before .args .by))
+    (λ c. ruled-small (c .before .args .n) (c .before .args .by) (c .before .pre) (c .if1 .left)))

@@ -28,21 +28,6 @@ module _ (c : tie.After-thousandths) where
       let p = c .before .parts-of .result in
       shown-value (c .before .before .before .before .args .mean) (p .minus) (p .digits * 2 ^ (p .power)) n (c .before .parts-of .ensures .value) (c .thousandths .ensures)
 
-is-finite-requires : tie.Need-is-finite-requires
-is-finite-requires c κs = search needs
-
-parts-of-requires : tie.Need-parts-of-requires
-parts-of-requires c κs = search needs
-
-thousandths-requires : tie.Need-thousandths-requires
-thousandths-requires c κs = search needs
-
-cast-n : tie.Need-cast-n
-cast-n c = search needs
-
-sub-result : tie.Need-sub-result
-sub-result c = subst (λ (z : ℤ). SFits w64 z) (sym (negated (n (c .before)) (few (c .before)))) (minus-fits (n (c .before)) (few (c .before)))
-
 returns : tie.Need-returns
 returns c =
     ap (λ (z : ℤ). toZ w64 (ofZ w64 z)) (negated (n (c .before)) (few (c .before)))
@@ -50,21 +35,12 @@ returns c =
     ∙ ap (λ (b : Bool). signed b (n (c .before))) (sym (c .if2 .taken))
     ∙ is (c .before)
 
-returns-2 : tie.Need-returns-2
-returns-2 c = positive (n (c .before)) (few (c .before)) ∙ ap (λ (b : Bool). signed b (n (c .before))) (sym (c .if2 .left)) ∙ is (c .before)
-
-returns-3 : tie.Need-returns-3
-returns-3 c = shown-none (c .before .before .args .mean) (sym (c .before .is-finite .ensures) ∙ c .if1 .left)
-
 pub shown-spec : {M : Type 1} → statement M
 shown-spec =
     tie.close
     (tie.spec
-    is-finite-requires
-    parts-of-requires
-    thousandths-requires
-    cast-n
-    sub-result
+    (λ c κs. search needs) (λ c κs. search needs) (λ c κs. search needs) (λ c. search needs)
+    (λ c. subst (λ (z : ℤ). SFits w64 z) (sym (negated (n (c .before)) (few (c .before)))) (minus-fits (n (c .before)) (few (c .before))))
     returns
-    returns-2
-    returns-3)
+    (λ c. positive (n (c .before)) (few (c .before)) ∙ ap (λ (b : Bool). signed b (n (c .before))) (sym (c .if2 .left)) ∙ is (c .before))
+    (λ c. shown-none (c .before .before .args .mean) (sym (c .before .is-finite .ensures) ∙ c .if1 .left)))

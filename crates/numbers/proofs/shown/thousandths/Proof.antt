@@ -9,15 +9,6 @@ use borrow.Author.Needs.{needs}
 use Rattle.numbers.proofs.shown.thousandths.Statement.{statement}
 use Rattle.numbers.proofs.shown.thousandths.Tie as tie
 
-mul-ruled-shift : tie.Need-mul-ruled-shift
-mul-ruled-shift c = search needs
-
-sub-ruled-shift : tie.Need-sub-ruled-shift
-sub-ruled-shift c = search needs
-
-ruled-shift-requires : tie.Need-ruled-shift-requires
-ruled-shift-requires c κs = search needs
-
 -- what the call gives is the number before it is held
 module _ (c : tie.After-ruled-shift) where
   abbrev n : ℕ
@@ -26,22 +17,14 @@ module _ (c : tie.After-ruled-shift) where
   held : min n mostShown ≡ min (ruled (1000 * (c .before .before .args .digits * 2 ^ (c .before .before .args .power))) (2 ^ 1074)) mostShown
   held = ap (λ (k : ℕ). min k mostShown) (c .ruled-shift .ensures ∙ low-power (c .before .before .args .digits) (c .before .before .args .power) (c .before .if1 .taken))
 
-returns : tie.Need-returns
-returns c =
-    let l : n (c .before) ≤ mostShown = omega arith in
-    sym (min-eq-left l) ∙ held (c .before)
-
-returns-2 : tie.Need-returns-2
-returns-2 c =
-    let l : mostShown ≤ n (c .before) = omega arith in
-    sym (min-eq-right l) ∙ held (c .before)
-
-returns-3 : tie.Need-returns-3
-returns-3 c =
-    let start = c .before in
-    high-power (start .args .digits) (start .args .power) (c .if1 .left) (start .pre .1 (omega arith))
-
 pub thousandths-spec : {M : Type 1} → statement M
 thousandths-spec =
     tie.close
-    (tie.spec mul-ruled-shift sub-ruled-shift ruled-shift-requires returns returns-2 returns-3)
+    (tie.spec
+    (λ c. search needs) (λ c. search needs) (λ c κs. search needs)
+    (λ c. let l : n (c .before) ≤ mostShown = omega arith in
+    sym (min-eq-left l) ∙ held (c .before))
+    (λ c. let l : mostShown ≤ n (c .before) = omega arith in
+    sym (min-eq-right l) ∙ held (c .before))
+    (λ c. let start = c .before in
+    high-power (start .args .digits) (start .args .power) (c .if1 .left) (start .pre .1 (omega arith))))

@@ -6,17 +6,11 @@ use Rattle.numbers.proofs.TestLaws.{between-infinities}
 use Rattle.numbers.proofs.tests.is_finite.Statement.{statement}
 use Rattle.numbers.proofs.tests.is_finite.Tie as tie
 
-returns : tie.Need-returns
-unfolding ofBits neg div
-returns c =
-    let x = c .before .args .x in
-    sym (ap (λ (t : Bool). t && lt x (inf false)) (c .if1 .taken)) ∙ between-infinities x
-
-returns-2 : tie.Need-returns-2
-unfolding ofBits neg div
-returns-2 c =
-    let x = c .before .args .x in
-    c .if1 .left ∙ sym (ap (λ (t : Bool). t && lt x (inf false)) (c .if1 .left)) ∙ between-infinities x
-
 pub is-finite-spec : {M : Type 1} → statement M
-is-finite-spec = tie.close (tie.spec returns returns-2)
+is-finite-spec =
+    tie.close
+    (tie.spec
+    (λ c. unfold ofBits neg div in let x = c .before .args .x in
+    sym (ap (λ (t : Bool). t && lt x (inf false)) (c .if1 .taken)) ∙ between-infinities x)
+    (λ c. unfold ofBits neg div in let x = c .before .args .x in
+    c .if1 .left ∙ sym (ap (λ (t : Bool). t && lt x (inf false)) (c .if1 .left)) ∙ between-infinities x))

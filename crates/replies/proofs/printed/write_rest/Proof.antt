@@ -9,12 +9,7 @@ pub write-rest-spec : {M : Type 1} → statement M
 write-rest-spec =
     tie.close
     (tie.spec
-    (λ c. search needs)
-    (λ c κs. search needs)
-    (λ c. search needs)
-    (λ c κs. search needs)
-    (λ c. search needs)
-    (λ c κs. search needs)
+    (λ c. search needs) (λ c κs. search needs) (λ c. search needs) (λ c κs. search needs) (λ c. search needs) (λ c κs. search needs)
     (λ c κs. search needs)
     (λ c. c .before .before .write-means .kept .0 ∙ c .before .before .before .before .before .before .write-real-field .kept .0 ∙ c .before .before .before .before .before .before .before .before .before .before .before .write-count2 .kept .0 ∙ c .before .before .before .before .before .before .before .before .before .before .before .before .before .before .before .before .write-count .kept .0)
     (λ c.

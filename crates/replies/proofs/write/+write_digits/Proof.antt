@@ -28,19 +28,10 @@ write-digits-below t = and 1 write-digits-kinds.ps (falls 1 write-digits-kinds.p
 pub +write-digits-spec : {M : Type 1} → statement M
 +write-digits-spec = close μ-write-digits λ t. write-digits-lts.spec
     (held-reads.Asked, held-reads.Learnt, write-byte-reads.Asked, write-byte-reads.Learnt, write-digits-below t, write-digits.Post)
-    (write-digits-at t)
-    write-digits.Post
-    (λ c κs. search needs)
+    (write-digits-at t) write-digits.Post (λ c κs. search needs)
     (λ c. let s = c .before .before .before .args in digits-none (s .d) (s .n) (c .before .if1 .taken) (c .held .ensures))
-    (λ c. omega arith)
-    (λ c. omega arith)
-    (λ c κs. search needs)
-    (λ c. c .before .before .write-byte .kept .0)
+    (λ c. omega arith) (λ c. omega arith) (λ c κs. search needs) (λ c. c .before .before .write-byte .kept .0)
     (λ c. let s = c .before .before .before .before .before .before .before .args in digits-one (s .d) (s .n) (c .before .before .before .before .before .if1 .left) (c .before .before .before .before .if2 .taken) (c .before .before .write-byte .ensures))
-    (λ c. omega arith)
-    (λ c κs. omega arith)
-    (λ c. omega arith)
-    (λ c. omega arith)
-    (λ c κs. search needs)
+    (λ c. omega arith) (λ c κs. omega arith) (λ c. omega arith) (λ c. omega arith) (λ c κs. search needs)
     (λ c. c .before .before .write-byte2 .kept .0 ∙ c .before .before .before .before .before .before .write-digits .kept .0)
     (λ c. let s = c .before .before .before .before .before .before .before .before .before .before .before .args in digits-more (s .d) (s .n) (c .before .before .before .before .before .before .before .before .before .if1 .left) (c .before .before .before .before .before .before .before .before .if2 .left) (c .before .before .before .before .before .before .write-digits .ensures) (c .before .before .write-byte2 .ensures))

@@ -29,13 +29,8 @@ write-hex-below t = and 1 write-hex-kinds.ps (falls 1 write-hex-kinds.ps _<_ μ-
 pub +write-hex-spec : {M : Type 1} → statement M
 +write-hex-spec = close μ-write-hex λ t. write-hex-lts.spec
     (held-reads.Asked, held-reads.Learnt, write-hex-below t, write-hex.Post, hex-digit-reads.Asked, hex-digit-reads.Learnt, write-byte-reads.Asked, write-byte-reads.Learnt)
-    (write-hex-at t)
-    write-hex.Post
-    (λ c κs. search needs)
+    (write-hex-at t) write-hex.Post (λ c κs. search needs)
     (λ c. let s = c .before .before .before .args in hex-none (s .d) (s .n) (c .before .if1 .taken) (c .held .ensures))
-    (λ c. omega arith)
-    (λ c κs. omega arith)
-    (λ c κs. omega arith)
-    (λ c κs. search needs)
+    (λ c. omega arith) (λ c κs. omega arith) (λ c κs. omega arith) (λ c κs. search needs)
     (λ c. c .before .before .write-byte .kept .0 ∙ c .before .before .before .before .before .before .before .write-hex .kept .0)
     (λ c. let s = c .before .before .before .before .before .before .before .before .before .before .before .args in hex-more (s .d) (s .n) (c .before .before .before .before .before .before .before .before .before .if1 .left) (c .before .before .before .hex-digit .ensures) (c .before .before .before .before .before .before .before .write-hex .ensures) (c .before .before .write-byte .ensures))

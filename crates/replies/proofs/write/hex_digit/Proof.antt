@@ -7,11 +7,10 @@ use borrow.Author.Tests.{lt-ltb, le-ltb}
 use Rattle.replies.proofs.write.hex_digit.Statement.{statement}
 use Rattle.replies.proofs.write.hex_digit.Tie as tie
 
-returns : tie.Need-returns
-returns c = let g = c .before .args .g in sym (ap (λ (b : Bool). cond b (48 + g) (87 + g)) (lt-ltb g 10 (c .if1 .taken)))
-
-returns-2 : tie.Need-returns-2
-returns-2 c = let g = c .before .args .g in sym (ap (λ (b : Bool). cond b (48 + g) (87 + g)) (le-ltb g 10 (c .if1 .left)))
-
 pub hex-digit-spec : {M : Type 1} → statement M
-hex-digit-spec = tie.close (tie.spec (λ c. search needs) (λ c. search needs) (λ c. search needs) (λ c. search needs) returns returns-2)
+hex-digit-spec =
+    tie.close
+    (tie.spec
+    (λ c. search needs) (λ c. search needs) (λ c. search needs) (λ c. search needs)
+    (λ c. let g = c .before .args .g in sym (ap (λ (b : Bool). cond b (48 + g) (87 + g)) (lt-ltb g 10 (c .if1 .taken))))
+    (λ c. let g = c .before .args .g in sym (ap (λ (b : Bool). cond b (48 + g) (87 + g)) (le-ltb g 10 (c .if1 .left)))))

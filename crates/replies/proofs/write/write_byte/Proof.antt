@@ -5,11 +5,10 @@ use Rattle.replies.proofs.WriteLaws.{one-in, one-past}
 use Rattle.replies.proofs.write.write_byte.Statement.{statement}
 use Rattle.replies.proofs.write.write_byte.Tie as tie
 
-returns : tie.Need-returns
-returns c = let a = c .before .args in one-in (a .at) (a .b) (now (a .out)) (c .if1 .taken)
-
-returns-2 : tie.Need-returns-2
-returns-2 c = let a = c .before .args in one-past (a .at) (a .b) (now (a .out)) (c .if1 .left)
-
 pub write-byte-spec : {M : Type 1} → statement M
-write-byte-spec = tie.close (tie.spec (λ c. search needs) (λ c. search needs) (λ c. search needs) returns returns-2)
+write-byte-spec =
+    tie.close
+    (tie.spec
+    (λ c. search needs) (λ c. search needs) (λ c. search needs)
+    (λ c. let a = c .before .args in one-in (a .at) (a .b) (now (a .out)) (c .if1 .taken))
+    (λ c. let a = c .before .args in one-past (a .at) (a .b) (now (a .out)) (c .if1 .left)))

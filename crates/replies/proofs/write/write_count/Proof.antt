@@ -9,8 +9,6 @@ pub write-count-spec : {M : Type 1} → statement M
 write-count-spec =
     tie.close
     (tie.spec
-    (λ c κs. search needs)
-    (λ c κs. search needs)
-    (λ c κs. search needs)
+    (λ c κs. search needs) (λ c κs. search needs) (λ c κs. search needs)
     (λ c. c .before .before .write-byte .kept .0 ∙ c .before .before .before .before .before .before .write-decimal .kept .0 ∙ c .before .before .before .before .before .before .before .before .before .before .write-text .kept .0)
     (λ c. join (c .before .before .before .before .before .before .before .before .before .before .write-text .ensures) (join (c .before .before .before .before .before .before .write-decimal .ensures) (c .before .before .write-byte .ensures))))

@@ -17,35 +17,17 @@ Inv-loop out₀ at means n end place₀ i₀ out place i = (i ≤ end) × ((leng
 abbrev μ-loop : tie.MeasureT-loop
 μ-loop out₀ at means n end place₀ i₀ out place i = end - i
 
-loop-holds : tie.Need-loop-holds Inv-loop μ-loop
-loop-holds c = (omega arith, (refl, lines-none (now (c .before .before .before .before .args .means)) (c .held2 .ensures)))
-
-loop-again : tie.Need-loop-again Inv-loop μ-loop
-loop-again c =
-    let l = c .before .before .before .before .before .before .loop in
-    let w = c .before .before .write-mean in
-    (omega arith, (w .kept .0 ∙ l .inv .1 .0, lines-more (now (c .before .before .before .before .before .before .before .before .before .before .before .args .means)) (l .i) (omega (arith, c .before .before .before .before .before .before .before .before .held .ensures)) (l .inv .1 .1) (w .ensures)))
-
-returns : tie.Need-returns Inv-loop μ-loop
-returns c =
-    let a = c .before .before .before .before .before .before .args in
-    let l = c .before .loop in
-    lines-all (now (a .means)) (l .i) (a .n) (omega (arith, c .before .before .before .held .ensures)) (l .inv .1 .1)
-
 pub write-means-spec : {M : Type 1} → statement M
 write-means-spec =
     tie.close
     (tie.spec
-    Inv-loop
-    μ-loop
-    (λ c κs. search needs)
-    (λ c κs. search needs)
-    loop-holds
+    Inv-loop μ-loop (λ c κs. search needs) (λ c κs. search needs)
+    (λ c. (omega arith, (refl, lines-none (now (c .before .before .before .before .args .means)) (c .held2 .ensures)))) (λ c. search needs)
+    (λ c. search needs) (λ c κs. search needs) (λ c. search needs) (λ c. search needs)
+    (λ c. let l = c .before .before .before .before .before .before .loop in
+    let w = c .before .before .write-mean in
+    (omega arith, (w .kept .0 ∙ l .inv .1 .0, lines-more (now (c .before .before .before .before .before .before .before .before .before .before .before .args .means)) (l .i) (omega (arith, c .before .before .before .before .before .before .before .before .held .ensures)) (l .inv .1 .1) (w .ensures))))
     (λ c. search needs)
-    (λ c. search needs)
-    (λ c κs. search needs)
-    (λ c. search needs)
-    (λ c. search needs)
-    loop-again
-    (λ c. search needs)
-    returns)
+    (λ c. let a = c .before .before .before .before .before .before .args in
+    let l = c .before .loop in
+    lines-all (now (a .means)) (l .i) (a .n) (omega (arith, c .before .before .before .held .ensures)) (l .inv .1 .1)))

@@ -8,7 +8,5 @@ pub write-real-spec : {M : Type 1} → statement M
 write-real-spec =
     tie.close
     (tie.spec
-    (λ c κs. search needs)
-    (λ c κs. search needs)
-    (λ c. search needs)
+    (λ c κs. search needs) (λ c κs. search needs) (λ c. search needs)
     (λ c. real-digits (c .before .before .before .before .before .before .args .x) (search needs) (c .before .before .write-hex .ensures)))

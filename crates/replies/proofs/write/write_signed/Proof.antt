@@ -24,11 +24,6 @@ pub write-signed-spec : {M : Type 1} → statement M
 write-signed-spec =
     tie.close
     (tie.spec
-    (λ c κs. search needs)
-    (λ c κs. search needs)
-    (λ c κs. search needs)
+    (λ c κs. search needs) (λ c κs. search needs) (λ c κs. search needs)
     (λ c. c .before .before .write-decimal .kept .0 ∙ c .before .before .before .before .before .before .write-byte .kept .0)
-    returns
-    (λ c κs. search needs)
-    (λ c. c .before .before .write-decimal2 .kept .0)
-    returns-2)
+    returns (λ c κs. search needs) (λ c. c .before .before .write-decimal2 .kept .0) returns-2)

@@ -11,8 +11,6 @@ pub write-signed-field-spec : {M : Type 1} → statement M
 write-signed-field-spec =
     tie.close
     (tie.spec
-    (λ c κs. search needs)
-    (λ c κs. search needs)
-    (λ c κs. search needs)
+    (λ c κs. search needs) (λ c κs. search needs) (λ c κs. search needs)
     (λ c. c .before .before .write-byte .kept .0 ∙ c .before .before .before .before .before .before .write-signed .kept .0 ∙ c .before .before .before .before .before .before .before .before .before .before .write-text .kept .0)
     (λ c. join (c .before .before .before .before .before .before .before .before .before .before .write-text .ensures) (join (spelled (ap intText (as-held (c .before .before .before .before .before .before .before .before .before .before .before .before .before .before .args .n) (c .before .before .before .before .before .before .before .before .before .before .before .before .before .before .fits .n))) (c .before .before .before .before .before .before .write-signed .ensures)) (c .before .before .write-byte .ensures))))

@@ -16,30 +16,15 @@ Inv-loop out₀ at s place₀ i₀ out place i = (i ≤ length s) × ((length ou
 abbrev μ-loop : tie.MeasureT-loop
 μ-loop out₀ at s place₀ i₀ out place i = length s - i
 
-loop-holds : tie.Need-loop-holds Inv-loop μ-loop
-loop-holds c = let a = c .before .before .before .args in (omega arith, (refl, none (now (a .out)) (c .held .ensures)))
-
-loop-again : tie.Need-loop-again Inv-loop μ-loop
-loop-again c =
-    let l = c .before .before .before .before .before .before .loop in
-    let w = c .before .before .write-byte in
-    (omega arith, (w .kept .0 ∙ l .inv .1 .0, more (now (c .before .before .before .before .before .before .before .before .before .before .args .s)) (l .i) (c .before .before .before .before .before .loop-test .taken) (l .inv .1 .1) (w .ensures)))
-
-returns : tie.Need-returns Inv-loop μ-loop
-returns c = let l = c .before .loop in all (now (c .before .before .before .before .before .args .s)) (l .i) (c .loop-test .left) (l .inv .1 .1)
-
 pub write-text-spec : {M : Type 1} → statement M
 write-text-spec =
     tie.close
     (tie.spec
-    Inv-loop
-    μ-loop
-    (λ c κs. search needs)
-    loop-holds
+    Inv-loop μ-loop (λ c κs. search needs)
+    (λ c. let a = c .before .before .before .args in (omega arith, (refl, none (now (a .out)) (c .held .ensures)))) (λ c. search needs)
+    (λ c κs. search needs) (λ c. search needs) (λ c. search needs)
+    (λ c. let l = c .before .before .before .before .before .before .loop in
+    let w = c .before .before .write-byte in
+    (omega arith, (w .kept .0 ∙ l .inv .1 .0, more (now (c .before .before .before .before .before .before .before .before .before .before .args .s)) (l .i) (c .before .before .before .before .before .loop-test .taken) (l .inv .1 .1) (w .ensures))))
     (λ c. search needs)
-    (λ c κs. search needs)
-    (λ c. search needs)
-    (λ c. search needs)
-    loop-again
-    (λ c. search needs)
-    returns)
+    (λ c. let l = c .before .loop in all (now (c .before .before .before .before .before .args .s)) (l .i) (c .loop-test .left) (l .inv .1 .1)))

@@ -17,22 +17,15 @@ Inv-loop coeffs₀ a b i₀ coeffs i = (a ≤ i) × ((i ≤ b) × ((length coeff
 abbrev μ-loop : tie.MeasureT-loop
 μ-loop coeffs₀ a b i₀ coeffs i = b - i
 
-loop-holds : tie.Need-loop-holds Inv-loop μ-loop
-loop-holds c = (omega arith, (omega arith, (refl, filled-none zero64 (c .args .a) (now (c .args .coeffs)))))
-
-loop-again : tie.Need-loop-again Inv-loop μ-loop
-loop-again c =
-    let l = c .before .loop in
-    let s = c .before .before in
-    (omega arith, (omega arith, (simp length-set (l .inv .1 .1 .0), rw (l .inv .1 .1 .1) (filled-suc zero64 (s .args .a) (now (s .args .coeffs)) (l .i) (l .inv .0) (omega arith)))))
-
-returns : tie.Need-returns Inv-loop μ-loop
-returns c =
-    let e : c .before .loop .i ≡ c .before .before .args .b = omega arith in
-    rw (← e) (c .before .loop .inv .1 .1 .1)
-
 pub clear-coeffs-spec : {M : Type 1} → statement M
 clear-coeffs-spec =
     tie.close
     (tie.spec
-    Inv-loop μ-loop loop-holds (λ c. search needs) (λ c. search needs) (λ c. search needs) (λ c. search needs) loop-again (λ c. search needs) returns)
+    Inv-loop μ-loop (λ c. (omega arith, (omega arith, (refl, filled-none zero64 (c .args .a) (now (c .args .coeffs)))))) (λ c. search needs)
+    (λ c. search needs) (λ c. search needs) (λ c. search needs)
+    (λ c. let l = c .before .loop in
+    let s = c .before .before in
+    (omega arith, (omega arith, (simp length-set (l .inv .1 .1 .0), rw (l .inv .1 .1 .1) (filled-suc zero64 (s .args .a) (now (s .args .coeffs)) (l .i) (l .inv .0) (omega arith))))))
+    (λ c. search needs)
+    (λ c. let e : c .before .loop .i ≡ c .before .before .args .b = omega arith in
+    rw (← e) (c .before .loop .inv .1 .1 .1)))

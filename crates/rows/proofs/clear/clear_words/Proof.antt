@@ -16,22 +16,15 @@ Inv-loop words₀ a b i₀ words i = (a ≤ i) × ((i ≤ b) × ((length words �
 abbrev μ-loop : tie.MeasureT-loop
 μ-loop words₀ a b i₀ words i = b - i
 
-loop-holds : tie.Need-loop-holds Inv-loop μ-loop
-loop-holds c = (omega arith, (omega arith, (refl, filled-none 0 (c .args .a) (now (c .args .words)))))
-
-loop-again : tie.Need-loop-again Inv-loop μ-loop
-loop-again c =
-    let l = c .before .loop in
-    let s = c .before .before in
-    (omega arith, (omega arith, (simp length-set (l .inv .1 .1 .0), rw (l .inv .1 .1 .1) (filled-suc 0 (s .args .a) (now (s .args .words)) (l .i) (l .inv .0) (omega arith)))))
-
-returns : tie.Need-returns Inv-loop μ-loop
-returns c =
-    let e : c .before .loop .i ≡ c .before .before .args .b = omega arith in
-    rw (← e) (c .before .loop .inv .1 .1 .1)
-
 pub clear-words-spec : {M : Type 1} → statement M
 clear-words-spec =
     tie.close
     (tie.spec
-    Inv-loop μ-loop loop-holds (λ c. search needs) (λ c. search needs) (λ c. search needs) (λ c. search needs) loop-again (λ c. search needs) returns)
+    Inv-loop μ-loop (λ c. (omega arith, (omega arith, (refl, filled-none 0 (c .args .a) (now (c .args .words)))))) (λ c. search needs)
+    (λ c. search needs) (λ c. search needs) (λ c. search needs)
+    (λ c. let l = c .before .loop in
+    let s = c .before .before in
+    (omega arith, (omega arith, (simp length-set (l .inv .1 .1 .0), rw (l .inv .1 .1 .1) (filled-suc 0 (s .args .a) (now (s .args .words)) (l .i) (l .inv .0) (omega arith))))))
+    (λ c. search needs)
+    (λ c. let e : c .before .loop .i ≡ c .before .before .args .b = omega arith in
+    rw (← e) (c .before .loop .inv .1 .1 .1)))

@@ -6,12 +6,9 @@ use borrow.Author.Needs.{needs}
 use Rattle.rows.proofs.row.number_at.Statement.{statement}
 use Rattle.rows.proofs.row.number_at.Tie as tie
 
-returns-2 : tie.Need-returns-2
-unfolding div ofBits
-returns-2 c = no-number (now (c .before .args .coeffs)) (c .before .args .k) (c .if1 .left)
-
 pub number-at-spec : {M : Type 1} → statement M
 number-at-spec =
     tie.close
     (tie.spec
-    (λ c. search needs) (λ c. search needs) (λ c. search needs) returns-2)
+    (λ c. search needs) (λ c. search needs) (λ c. search needs)
+    (λ c. unfold div ofBits in no-number (now (c .before .args .coeffs)) (c .before .args .k) (c .if1 .left)))

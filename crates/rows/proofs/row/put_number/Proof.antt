@@ -6,11 +6,9 @@ use borrow.Author.Needs.{needs}
 use Rattle.rows.proofs.row.put_number.Statement.{statement}
 use Rattle.rows.proofs.row.put_number.Tie as tie
 
-returns-2 : tie.Need-returns-2
-returns-2 c = sym (set-out (now (c .before .args .coeffs)) (c .before .args .k) (c .before .args .x) (c .if1 .left))
-
 pub put-number-spec : {M : Type 1} → statement M
 put-number-spec =
     tie.close
     (tie.spec
-    (λ c. search needs) (λ c. search needs) (λ c. search needs) (λ c. search needs) returns-2)
+    (λ c. search needs) (λ c. search needs) (λ c. search needs) (λ c. search needs)
+    (λ c. sym (set-out (now (c .before .args .coeffs)) (c .before .args .k) (c .before .args .x) (c .if1 .left))))

@@ -6,12 +6,9 @@ use borrow.Author.Needs.{needs}
 use Rattle.rows.proofs.row.value_at.Statement.{statement}
 use Rattle.rows.proofs.row.value_at.Tie as tie
 
-returns : tie.Need-returns
-unfolding div ofBits
-returns c = no-value (now (c .before .before .args .coeffs)) (c .before .before .args .i) (c .if1 .taken)
-
 pub value-at-spec : {M : Type 1} → statement M
 value-at-spec =
     tie.close
     (tie.spec
-    returns (λ c. search needs) (λ c κs. search needs) (λ c. search needs) (λ c. search needs) (λ c κs. search needs) (λ c. cc))
+    (λ c. unfold div ofBits in no-value (now (c .before .before .args .coeffs)) (c .before .before .args .i) (c .if1 .taken))
+    (λ c. search needs) (λ c κs. search needs) (λ c. search needs) (λ c. search needs) (λ c κs. search needs) (λ c. cc))

@@ -4,12 +4,6 @@ use Rattle.terms.specs.Channel.{dampAction}
 use Rattle.terms.proofs.channels.damping_action.Statement.{statement}
 use Rattle.terms.proofs.channels.damping_action.Tie as tie
 
-returns : tie.Need-returns
-unfolding dampAction
-returns c = cc
-
 pub damping-action-spec : {M : Type 1} → statement M
-damping-action-spec =
-    tie.close
-    (tie.spec
-    (λ c κs. search needs) (λ c κs. search needs) (λ c κs. search needs) returns)
+unfolding dampAction
+damping-action-spec = tie.close (tie.spec (λ c κs. search needs) (λ c κs. search needs) (λ c κs. search needs) (λ c. cc))

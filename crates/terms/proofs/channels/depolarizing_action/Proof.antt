@@ -4,12 +4,6 @@ use Rattle.terms.specs.Channel.{depolAction}
 use Rattle.terms.proofs.channels.depolarizing_action.Statement.{statement}
 use Rattle.terms.proofs.channels.depolarizing_action.Tie as tie
 
-returns : tie.Need-returns
-unfolding depolAction
-returns c = cc
-
 pub depolarizing-action-spec : {M : Type 1} → statement M
-depolarizing-action-spec =
-    tie.close
-    (tie.spec
-    (λ c κs. search needs) returns)
+unfolding depolAction
+depolarizing-action-spec = tie.close (tie.spec (λ c κs. search needs) (λ c. cc))

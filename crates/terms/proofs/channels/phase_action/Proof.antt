@@ -4,12 +4,6 @@ use Rattle.terms.specs.Channel.{phaseAction}
 use Rattle.terms.proofs.channels.phase_action.Statement.{statement}
 use Rattle.terms.proofs.channels.phase_action.Tie as tie
 
-returns : tie.Need-returns
-unfolding phaseAction
-returns c = cc
-
 pub phase-action-spec : {M : Type 1} → statement M
-phase-action-spec =
-    tie.close
-    (tie.spec
-    (λ c κs. search needs) (λ c κs. search needs) (λ c κs. search needs) returns)
+unfolding phaseAction
+phase-action-spec = tie.close (tie.spec (λ c κs. search needs) (λ c κs. search needs) (λ c κs. search needs) (λ c. cc))

@@ -4,12 +4,6 @@ use Rattle.terms.specs.Channel.{thermalAction}
 use Rattle.terms.proofs.channels.thermal_action.Statement.{statement}
 use Rattle.terms.proofs.channels.thermal_action.Tie as tie
 
-returns : tie.Need-returns
-unfolding thermalAction
-returns c = cc
-
 pub thermal-action-spec : {M : Type 1} → statement M
-thermal-action-spec =
-    tie.close
-    (tie.spec
-    (λ c κs. search needs) (λ c κs. search needs) (λ c κs. search needs) (λ c κs. search needs) (λ c κs. search needs) returns)
+unfolding thermalAction
+thermal-action-spec = tie.close (tie.spec (λ c κs. search needs) (λ c κs. search needs) (λ c κs. search needs) (λ c κs. search needs) (λ c κs. search needs) (λ c. cc))

@@ -9,12 +9,6 @@ pub push-digit-spec : {M : Type 1} → statement M
 push-digit-spec =
     tie.close
     (tie.spec
-    (λ c. digit-under _ _ (omega arith))
-    (λ c. digit-over _ _ (omega arith))
-    (λ c. search needs)
-    (λ c. search needs)
-    (λ c. search needs)
-    (λ c. digit-full _ _ (omega arith))
-    (λ c. search needs)
-    (λ c. search needs)
+    (λ c. digit-under _ _ (omega arith)) (λ c. digit-over _ _ (omega arith)) (λ c. search needs) (λ c. search needs) (λ c. search needs)
+    (λ c. digit-full _ _ (omega arith)) (λ c. search needs) (λ c. search needs)
     (λ c. digit-fits _ _ (omega arith) (omega arith) (omega arith)))

@@ -26,40 +26,19 @@ loop-holds c = (
       (c .if2 .came),
 )
 
-returns-3 : tie.Need-returns-3 Inv-loop μ-loop
-returns-3 c =
-    let l = c .before .before .before .before .before .loop in
-    let read = sym (c .enum-told .given .1) ∙ c .before .before .push-digit .ensures in
-    steps-stop _ _ _ (l .i) _ (l .inv .1) digit-stays (search needs) read
-
-loop-again : tie.Need-loop-again Inv-loop μ-loop
-loop-again c =
-    let l = c .before .before .before .before .before .before .loop in
-    let read = sym (c .before .w .given .1) ∙ c .before .before .before .push-digit .ensures in
-    (search needs, steps-next _ _ _ (l .i) _ (l .inv .1) _ (search needs) read)
-
-returns-4 : tie.Need-returns-4 Inv-loop μ-loop
-returns-4 c =
-    let s = c .before .before .before .before .before .args .s .now in
-    let l = c .before .loop in
-    steps-end _ _ s (l .i) _ (l .inv .1) (search needs)
-
 pub read-decimal-spec : {M : Type 1} → statement M
 read-decimal-spec =
     tie.close
     (tie.spec
-    Inv-loop
-    μ-loop
-    (λ c. decimal-none _ (c .if1 .taken))
-    (λ c. search needs)
-    (λ c. decimal-zero _ (search needs) (c .if3 .taken))
-    loop-holds
-    (λ c. search needs)
-    (λ c κs. search needs)
-    (λ c. search needs)
-    (λ c. search needs)
-    returns-3
-    (λ c. search needs)
-    (λ c. search needs)
-    loop-again
-    returns-4)
+    Inv-loop μ-loop (λ c. decimal-none _ (c .if1 .taken)) (λ c. search needs) (λ c. decimal-zero _ (search needs) (c .if3 .taken)) loop-holds
+    (λ c. search needs) (λ c κs. search needs) (λ c. search needs) (λ c. search needs)
+    (λ c. let l = c .before .before .before .before .before .loop in
+    let read = sym (c .enum-told .given .1) ∙ c .before .before .push-digit .ensures in
+    steps-stop _ _ _ (l .i) _ (l .inv .1) digit-stays (search needs) read)
+    (λ c. search needs) (λ c. search needs)
+    (λ c. let l = c .before .before .before .before .before .before .loop in
+    let read = sym (c .before .w .given .1) ∙ c .before .before .before .push-digit .ensures in
+    (search needs, steps-next _ _ _ (l .i) _ (l .inv .1) _ (search needs) read))
+    (λ c. let s = c .before .before .before .before .before .args .s .now in
+    let l = c .before .loop in
+    steps-end _ _ s (l .i) _ (l .inv .1) (search needs)))

@@ -19,12 +19,8 @@ pub find-spec : {M : Type 1} → statement M
 find-spec =
     tie.close
     (tie.spec
-    Inv-loop
-    μ-loop
-    (λ c. (search needs, zero-add _))
-    (λ c. search needs)
+    Inv-loop μ-loop (λ c. (search needs, zero-add _)) (λ c. search needs)
     (λ c. index-found _ _ _ (c .before .before .before .loop .inv .1) (search needs) (c .if1 .taken))
-    (λ c. search needs)
-    (λ c. search needs)
+    (λ c. search needs) (λ c. search needs)
     (λ c. (search needs, index-next _ _ _ (c .before .before .before .loop .inv .1) (search needs) (c .if1 .left)))
     (λ c. index-none _ _ _ (c .before .loop .inv .1) (search needs)))

@@ -8,6 +8,5 @@ pub is-text-spec : {M : Type 1} → statement M
 is-text-spec =
     tie.close
     (tie.spec
-    (λ c. rw (ne-eqb _ _ (c .if1 .taken)))
-    (λ c κs. search needs)
+    (λ c. rw (ne-eqb _ _ (c .if1 .taken))) (λ c κs. search needs)
     (λ c. rw (eq-eqb _ _ (c .before .if1 .left)) (c .starts-with .ensures)))

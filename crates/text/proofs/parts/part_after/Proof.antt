@@ -8,11 +8,6 @@ pub part-after-spec : {M : Type 1} → statement M
 part-after-spec =
     tie.close
     (tie.spec
-    (λ c κs. search needs)
-    (λ c. search needs)
-    (λ c. search needs)
-    (λ c. search needs)
-    (λ c. search needs)
-    (λ c. search needs)
+    (λ c κs. search needs) (λ c. search needs) (λ c. search needs) (λ c. search needs) (λ c. search needs) (λ c. search needs)
     (λ c. after-found _ _ _ (c .before .before .find .ensures))
     (λ c. after-none _ _ _ (c .before .before .find .ensures) (c .before .if1 .left)))

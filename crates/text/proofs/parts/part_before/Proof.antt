@@ -10,7 +10,5 @@ pub part-before-spec : {M : Type 1} → statement M
 part-before-spec =
     tie.close
     (tie.spec
-    (λ c κs. search needs)
-    (λ c. sym (length-take-le _ _ (search needs)))
-    (λ c. before-found _ _ _ (c .before .before .find .ensures))
+    (λ c κs. search needs) (λ c. sym (length-take-le _ _ (search needs))) (λ c. before-found _ _ _ (c .before .before .find .ensures))
     (λ c. before-none _ _ _ (c .before .find .ensures) (c .if1 .left)))

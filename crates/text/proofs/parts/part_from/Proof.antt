@@ -11,9 +11,6 @@ pub part-from-spec : {M : Type 1} → statement M
 part-from-spec =
     tie.close
     (tie.spec
-    (λ c. search needs)
-    (λ c. search needs)
-    (λ c. search needs)
-    (λ c. search needs)
+    (λ c. search needs) (λ c. search needs) (λ c. search needs) (λ c. search needs)
     (λ c. tail-is (c .before .before .args .s .now) (c .before .before .args .n))
     (λ c. sym (drop-of-length-le _ (le-of-lt (c .before .if1 .left)))))

@@ -7,9 +7,4 @@ use Rattle.text.proofs.parts.part_to.Statement.{statement}
 use Rattle.text.proofs.parts.part_to.Tie as tie
 
 pub part-to-spec : {M : Type 1} → statement M
-part-to-spec =
-    tie.close
-    (tie.spec
-    (λ c. sym (length-take-le _ _ (search needs)))
-    (λ c. refl)
-    (λ c. sym (take-all _ _ (le-of-lt (c .if1 .left)))))
+part-to-spec = tie.close (tie.spec (λ c. sym (length-take-le _ _ (search needs))) (λ c. refl) (λ c. sym (take-all _ _ (le-of-lt (c .if1 .left)))))

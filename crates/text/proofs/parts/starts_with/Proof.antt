@@ -14,28 +14,14 @@ Inv-loop s k i₀ i = (i ≤ length k) × (length k ≤ length s) × (begins (dr
 abbrev μ-loop : tie.MeasureT-loop
 μ-loop s k i₀ i = length k - i
 
-returns-2 : tie.Need-returns-2 Inv-loop μ-loop
-returns-2 c =
-    let l = c .before .before .before .before .loop in
-    begins-stop _ _ (l .i) (search needs) (l .inv .2) (search needs) (c .if2 .taken)
-
-loop-again : tie.Need-loop-again Inv-loop μ-loop
-loop-again c =
-    let l = c .before .before .before .before .loop in
-    (search needs, search needs, begins-next _ _ (l .i) (search needs) (l .inv .2) (search needs) (c .if2 .left))
-
 pub starts-with-spec : {M : Type 1} → statement M
 starts-with-spec =
     tie.close
     (tie.spec
-    Inv-loop
-    μ-loop
-    (λ c. begins-short _ _ (c .if1 .taken))
-    (λ c. (search needs, search needs, refl))
-    (λ c. search needs)
-    (λ c. search needs)
-    returns-2
-    (λ c. search needs)
-    (λ c. search needs)
-    loop-again
+    Inv-loop μ-loop (λ c. begins-short _ _ (c .if1 .taken)) (λ c. (search needs, search needs, refl)) (λ c. search needs) (λ c. search needs)
+    (λ c. let l = c .before .before .before .before .loop in
+    begins-stop _ _ (l .i) (search needs) (l .inv .2) (search needs) (c .if2 .taken))
+    (λ c. search needs) (λ c. search needs)
+    (λ c. let l = c .before .before .before .before .loop in
+    (search needs, search needs, begins-next _ _ (l .i) (search needs) (l .inv .2) (search needs) (c .if2 .left)))
     (λ c. begins-end _ _ (c .before .loop .i) (c .before .loop .inv .2) (search needs)))

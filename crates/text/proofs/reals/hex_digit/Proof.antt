@@ -9,11 +9,6 @@ pub hex-digit-spec : {M : Type 1} → statement M
 hex-digit-spec =
     tie.close
     (tie.spec
-    (λ c. hex-under _ (omega arith))
-    (λ c. search needs)
-    (λ c. hex-number _ (omega arith) (omega arith))
-    (λ c. hex-between _ (omega arith) (omega arith))
-    (λ c. search needs)
-    (λ c. search needs)
-    (λ c. hex-letter _ (omega arith) (omega arith))
+    (λ c. hex-under _ (omega arith)) (λ c. search needs) (λ c. hex-number _ (omega arith) (omega arith))
+    (λ c. hex-between _ (omega arith) (omega arith)) (λ c. search needs) (λ c. search needs) (λ c. hex-letter _ (omega arith) (omega arith))
     (λ c. hex-over _ (omega arith)))

@@ -16,22 +16,6 @@ Inv-loop s v₀ i₀ v i = (i ≤ length s) × (length s ≡ 16) × (v < 16 ^ i)
 abbrev μ-loop : tie.MeasureT-loop
 μ-loop s v₀ i₀ v i = length s - i
 
-returns-2 : tie.Need-returns-2 Inv-loop μ-loop
-returns-2 c =
-    let l = c .before .before .before .before .loop in
-    let read = hex-bad (l .v) _ _ (c .before .hex-digit .ensures) (c .if2 .taken) in
-    steps-stop _ _ _ (l .i) _ (l .inv .3) hex-stays (search needs) read
-
-mul-v : tie.Need-mul-v Inv-loop μ-loop
-mul-v c =
-    let l = c .before .before .before .before .loop in
-    record { fits = omega (arith, hex-fits (l .i) (l .v) (c .before .hex-digit .result) (l .inv .2) (search needs) (search needs)) }
-
-add-v : tie.Need-add-v Inv-loop μ-loop
-add-v c =
-    let l = c .before .before .before .before .loop in
-    record { fits = hex-fits (l .i) (l .v) (c .before .hex-digit .result) (l .inv .2) (search needs) (search needs) }
-
 loop-again : tie.Need-loop-again Inv-loop μ-loop
 loop-again c =
     let l = c .before .before .before .before .loop in
@@ -42,26 +26,20 @@ loop-again c =
       steps-next _ _ _ (l .i) _ (l .inv .3) _ (search needs) read,
     )
 
-returns-3 : tie.Need-returns-3 Inv-loop μ-loop
-returns-3 c =
-    let s = c .before .before .before .before .args .s .now in
-    let l = c .before .loop in
-    steps-end _ _ s (l .i) _ (l .inv .3) (search needs)
-
 pub read-hex-spec : {M : Type 1} → statement M
 read-hex-spec =
     tie.close
     (tie.spec
-    Inv-loop
-    μ-loop
-    (λ c. hex16-none _ (c .if1 .taken))
-    (λ c. (search needs, search needs, search needs, hex16-start _ (c .if1 .left)))
-    (λ c. search needs)
-    (λ c κs. search needs)
-    returns-2
-    mul-v
-    add-v
-    (λ c. search needs)
-    (λ c. search needs)
-    loop-again
-    returns-3)
+    Inv-loop μ-loop (λ c. hex16-none _ (c .if1 .taken)) (λ c. (search needs, search needs, search needs, hex16-start _ (c .if1 .left)))
+    (λ c. search needs) (λ c κs. search needs)
+    (λ c. let l = c .before .before .before .before .loop in
+    let read = hex-bad (l .v) _ _ (c .before .hex-digit .ensures) (c .if2 .taken) in
+    steps-stop _ _ _ (l .i) _ (l .inv .3) hex-stays (search needs) read)
+    (λ c. let l = c .before .before .before .before .loop in
+    record { fits = omega (arith, hex-fits (l .i) (l .v) (c .before .hex-digit .result) (l .inv .2) (search needs) (search needs)) })
+    (λ c. let l = c .before .before .before .before .loop in
+    record { fits = hex-fits (l .i) (l .v) (c .before .hex-digit .result) (l .inv .2) (search needs) (search needs) })
+    (λ c. search needs) (λ c. search needs) loop-again
+    (λ c. let s = c .before .before .before .before .args .s .now in
+    let l = c .before .loop in
+    steps-end _ _ s (l .i) _ (l .inv .3) (search needs)))

@@ -6,18 +6,11 @@ use borrow.Author.Needs.{needs}
 use Rattle.text.proofs.reals.read_real.Statement.{statement}
 use Rattle.text.proofs.reals.read_real.Tie as tie
 
-returns : tie.Need-returns
-returns c =
-    let read = sym (c .before .before .v .given .1) ∙ c .before .before .before .before .read-hex .ensures in
-    ap Value (c .of-bits .ensures) ∙ ap realOf read
-
 pub read-real-spec : {M : Type 1} → statement M
 read-real-spec =
     tie.close
     (tie.spec
-    (λ c κs. search needs)
-    (λ c. search needs)
-    (λ c κs. search needs)
-    (λ c. search needs)
-    returns
+    (λ c κs. search needs) (λ c. search needs) (λ c κs. search needs) (λ c. search needs)
+    (λ c. let read = sym (c .before .before .v .given .1) ∙ c .before .before .before .before .read-hex .ensures in
+    ap Value (c .of-bits .ensures) ∙ ap realOf read)
     (λ c. ap realOf (sym (c .enum-told .given .1) ∙ c .before .before .read-hex .ensures)))

@@ -4,10 +4,9 @@ use native.Mathlib.Nat.{zero-add}
 use Rattle.words.proofs.gates.read_bits.Statement.{statement}
 use Rattle.words.proofs.gates.read_bits.Tie as tie
 
-returns : tie.Need-returns
-returns c = let a = c .before .before .before .before .before .args in cc (zero-add (a .a), zero-add (a .b))
-
 pub read-bits-spec : {M : Type 1} → statement M
 read-bits-spec =
     tie.close
-    (tie.spec (λ c κs. search needs) (λ c κs. search needs) (λ c κs. search needs) (λ c κs. search needs) returns)
+    (tie.spec
+    (λ c κs. search needs) (λ c κs. search needs) (λ c κs. search needs) (λ c κs. search needs)
+    (λ c. let a = c .before .before .before .before .before .args in cc (zero-add (a .a), zero-add (a .b))))

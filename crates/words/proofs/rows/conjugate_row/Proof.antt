@@ -11,12 +11,6 @@ use Rattle.words.proofs.RowSteps.{row-fits, row-past, phase-past, row-s
 use Rattle.words.proofs.rows.conjugate_row.Statement.{statement}
 use Rattle.words.proofs.rows.conjugate_row.Tie as tie
 
-returns : tie.Need-returns
-returns c =
-    let a = c .before .before .before .args in
-    let h : rowCount (a .w) (now (a .words)) ≤ a .row = subst (λ (n : ℕ). n ≤ a .row) (c .before .rows-of .ensures) (c .if1 .taken) in
-    (sym (row-past (a .w) (a .row) (now (a .words)) (a .gate) (a .a) (a .b) h), sym (phase-past (a .w) (a .row) (now (a .words)) (a .gate) (a .a) (a .b) h))
-
 below : (c : tie.Else1) → c .before .before .before .args .row < rowCount (c .before .before .before .args .w) (now (c .before .before .before .args .words))
 below c = subst (λ (n : ℕ). c .before .before .before .args .row < n) (c .before .rows-of .ensures) (c .if1 .left)
 
@@ -24,21 +18,6 @@ fits : (c : tie.Else1)
     → c .before .before .before .args .row * (2 * c .before .before .before .args .w) + 2 * c .before .before .before .args .w
     ≤ length (now (c .before .before .before .args .words))
 fits c = let a = c .before .before .before .args in row-fits (length (now (a .words))) (a .w) (a .row) (below c)
-
-mul-size : tie.Need-mul-size
-mul-size c = omega (arith, fits c)
-
-mul-base : tie.Need-mul-base
-mul-base c = omega (arith, fits c)
-
-add-end : tie.Need-add-end
-add-end c = omega (arith, fits c)
-
-mul-conjugate-key : tie.Need-mul-conjugate-key
-mul-conjugate-key c = omega (arith, fits c)
-
-part-conjugate-key-end : tie.Need-part-conjugate-key-end
-part-conjugate-key-end c = fits c
 
 returns-2 : tie.Need-returns-2
 returns-2 c =
@@ -54,14 +33,8 @@ conjugate-row-spec =
     tie.close
     (tie.spec
     (λ c κs. search needs)
-    returns
-    mul-size
-    mul-base
-    add-end
-    mul-conjugate-key
-    (λ c. search needs)
-    (λ c. search needs)
-    part-conjugate-key-end
-    (λ c κs. search needs)
-    (λ c. search needs)
-    returns-2)
+    (λ c. let a = c .before .before .before .args in
+    let h : rowCount (a .w) (now (a .words)) ≤ a .row = subst (λ (n : ℕ). n ≤ a .row) (c .before .rows-of .ensures) (c .if1 .taken) in
+    (sym (row-past (a .w) (a .row) (now (a .words)) (a .gate) (a .a) (a .b) h), sym (phase-past (a .w) (a .row) (now (a .words)) (a .gate) (a .a) (a .b) h)))
+    (λ c. omega (arith, fits c)) (λ c. omega (arith, fits c)) (λ c. omega (arith, fits c)) (λ c. omega (arith, fits c)) (λ c. search needs)
+    (λ c. search needs) (λ c. fits c) (λ c κs. search needs) (λ c. search needs) returns-2)

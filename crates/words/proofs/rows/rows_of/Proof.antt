@@ -7,11 +7,10 @@ use Rattle.words.proofs.RowSteps.{no-rows}
 use Rattle.words.proofs.rows.rows_of.Statement.{statement}
 use Rattle.words.proofs.rows.rows_of.Tie as tie
 
-returns : tie.Need-returns
-returns c = let n = c .before .args .n in sym (ap (λ (w : ℕ). n / (2 * w)) (c .if1 .taken) ∙ div-zero n)
-
-returns-2 : tie.Need-returns-2
-returns-2 c = let a = c .before .before .args in sym (no-rows (a .n) (a .w) (c .if2 .taken))
-
 pub rows-of-spec : {M : Type 1} → statement M
-rows-of-spec = tie.close (tie.spec returns returns-2 (λ c. search needs) (λ c. search needs) (λ c. search needs))
+rows-of-spec =
+    tie.close
+    (tie.spec
+    (λ c. let n = c .before .args .n in sym (ap (λ (w : ℕ). n / (2 * w)) (c .if1 .taken) ∙ div-zero n))
+    (λ c. let a = c .before .before .args in sym (no-rows (a .n) (a .w) (c .if2 .taken))) (λ c. search needs) (λ c. search needs)
+    (λ c. search needs))
