@@ -1,10 +1,11 @@
 #!/usr/bin/env python3
-"""Build the oracle: build.py SRC OUT
+"""Build the oracle: build.py SRC OUT [--speed LIB]
 
 SRC is a folder of prism-q's sources at commit bb77d8f888: a checkout (with
 src/sim/unified_pauli.rs and so on) or a flat folder in which the same files
 are named src--src--sim--unified_pauli.rs.txt and so on. OUT is a folder that
-is made; the program is OUT/oracle.
+is made; the program is OUT/oracle. With --speed it is OUT/speed instead, which
+times the same code against LIB, the file libqubit_bench.a.
 
 Four files are taken whole and altered at the places listed below, one is cut
 to two functions. Each place is a short text that must occur exactly once
@@ -113,8 +114,8 @@ def unified_pauli(text):
         text,
         where,
         "-> f64 {\n",
-        "-> f64 {\n        crate::hook::end(self.terms.iter().map(|(key, coeff)| crate::hook::Row "
-        "{ x: key.x().to_vec(), z: key.z().to_vec(), coeff: *coeff }));\n",
+        "-> f64 {\n        crate::hook::end(self.terms.iter()"
+        ".map(|(key, coeff)| (key.x(), key.z(), *coeff)));\n",
         header,
     )
     return alter(text, where, "        sum.re", "        crate::hook::mean(sum.re)", header)
@@ -145,9 +146,10 @@ def propagation(text):
 
 
 def main():
-    if len(sys.argv) != 3:
-        fail("usage: build.py SRC OUT")
-    src, out = sys.argv[1:]
+    speed = len(sys.argv) == 5 and sys.argv[3] == "--speed"
+    if len(sys.argv) != 3 and not speed:
+        fail("usage: build.py SRC OUT [--speed LIB]")
+    src, out = sys.argv[1:3]
     made = {
         "sim/unified_pauli.rs": unified_pauli(read(src, "src/sim/unified_pauli.rs")),
         "sim/compiled/propagation.rs": propagation(read(src, "src/sim/compiled/propagation.rs")),
@@ -161,12 +163,15 @@ def main():
         os.makedirs(os.path.dirname(full), exist_ok=True)
         with open(full, "w", encoding="utf-8") as file:
             file.write(text)
-    for name in ("main.rs", "standins.rs", "hook.rs", "sheet.rs"):
+    for name in ("main.rs", "standins.rs", "hook.rs", "sheet.rs", "speed.rs"):
         shutil.copyfile(os.path.join(HERE, name), os.path.join(code, name))
     # prism-q's files use `let` chains, so the edition is 2024.
     command = ["rustc", "--edition", "2024", "-O", "--cap-lints", "allow"]
-    command += ["--crate-name", "oracle", os.path.join(code, "main.rs")]
-    command += ["-o", os.path.join(out, "oracle")]
+    name = "speed" if speed else "oracle"
+    command += ["--crate-name", name, os.path.join(code, "main.rs")]
+    command += ["-o", os.path.join(out, name)]
+    if speed:
+        command += ["--cfg", "speed", "-C", "link-arg=" + os.path.abspath(sys.argv[4])]
     sys.exit(subprocess.run(command).returncode)
 
 

@@ -8,6 +8,7 @@ use crate::Complex64;
 use std::cell::RefCell;
 use std::cmp::Ordering;
 use std::fmt;
+use std::sync::atomic::{AtomicBool, Ordering::Relaxed};
 
 /// The words of one row and its coefficient.
 pub struct Row {
@@ -123,6 +124,14 @@ pub fn t_is_the_machines() -> bool {
 
 // ---- question 8, where document 01 puts it ----
 
+/// Whether question 8 is looked at. `speed --bare` does not, to time prism-q
+/// without it.
+pub static LOOKS: AtomicBool = AtomicBool::new(true);
+
+fn looks() -> bool {
+    cfg!(not(speed)) || LOOKS.load(Relaxed)
+}
+
 fn look(state: &mut State, coeff: Complex64) {
     if !coeff.is_finite() {
         state.infinite = true;
@@ -133,6 +142,9 @@ fn look(state: &mut State, coeff: Complex64) {
 
 /// After an op, after its truncation, and after the last drop.
 pub fn ask(coeffs: impl Iterator<Item = Complex64>, discarded: f64) {
+    if !looks() {
+        return;
+    }
     STATE.with_borrow_mut(|state| {
         if !discarded.is_finite() {
             state.infinite = true;
@@ -143,14 +155,22 @@ pub fn ask(coeffs: impl Iterator<Item = Complex64>, discarded: f64) {
     });
 }
 
-/// The terms at the end of a run.
-pub fn end(rows: impl Iterator<Item = Row>) {
+/// The terms at the end of a run: words x, words z and coefficient of each.
+/// They are kept to be printed, unless the program is `speed`, which prints no
+/// rows.
+pub fn end<'a>(terms: impl Iterator<Item = (&'a [u64], &'a [u64], Complex64)>) {
     STATE.with_borrow_mut(|state| {
-        state.rows = rows.collect();
+        state.rows.clear();
         state.ends += 1;
-        for at in 0..state.rows.len() {
-            let coeff = state.rows[at].coeff;
+        if !looks() {
+            return;
+        }
+        for (x, z, coeff) in terms {
             look(state, coeff);
+            if cfg!(not(speed)) {
+                let (x, z) = (x.to_vec(), z.to_vec());
+                state.rows.push(Row { x, z, coeff });
+            }
         }
     });
 }

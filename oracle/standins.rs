@@ -295,22 +295,45 @@ pub mod error {
 // ---- prism-q's hash: a map that lists its keys by first insertion ----
 
 pub mod hash {
-    use std::collections::HashMap;
-    use std::hash::Hash;
+    use std::collections::{HashMap, hash_map};
+    use std::hash::{BuildHasherDefault, Hash, Hasher};
+
+    /// The hash of the crate `rustc-hash`, version 2, word by word.
+    #[derive(Default, Clone, Copy)]
+    pub struct FxHasher(u64);
+
+    impl Hasher for FxHasher {
+        fn write(&mut self, bytes: &[u8]) {
+            for chunk in bytes.chunks(8) {
+                let mut word = [0; 8];
+                word[..chunk.len()].copy_from_slice(chunk);
+                self.write_u64(u64::from_le_bytes(word));
+            }
+        }
+
+        #[inline]
+        fn write_u64(&mut self, word: u64) {
+            self.0 = self.0.wrapping_add(word).wrapping_mul(0xf1357aea2e62a9c5);
+        }
+
+        #[inline]
+        fn finish(&self) -> u64 {
+            self.0.rotate_left(26)
+        }
+    }
 
     pub struct FxBuildHasher;
 
+    /// Each value has the number of its key beside it, counted by first
+    /// insertion.
     pub struct FxHashMap<K, V> {
-        places: HashMap<K, usize>,
-        listed: Vec<(K, V)>,
+        numbered: HashMap<K, (V, usize), BuildHasherDefault<FxHasher>>,
     }
 
     impl<K, V> Default for FxHashMap<K, V> {
         fn default() -> Self {
-            Self {
-                places: HashMap::new(),
-                listed: Vec::new(),
-            }
+            let numbered = HashMap::default();
+            Self { numbered }
         }
     }
 
@@ -319,29 +342,32 @@ pub mod hash {
         key: K,
     }
 
-    impl<K: Clone + Eq + Hash, V> FxHashMap<K, V> {
-        pub fn with_capacity_and_hasher(_capacity: usize, _hasher: FxBuildHasher) -> Self {
-            Self::default()
+    impl<K: Eq + Hash, V> FxHashMap<K, V> {
+        pub fn with_capacity_and_hasher(capacity: usize, _hasher: FxBuildHasher) -> Self {
+            let numbered = HashMap::with_capacity_and_hasher(capacity, Default::default());
+            Self { numbered }
         }
 
         pub fn clear(&mut self) {
-            self.places.clear();
-            self.listed.clear();
+            self.numbered.clear();
         }
 
-        pub fn reserve(&mut self, _more: usize) {}
+        pub fn reserve(&mut self, more: usize) {
+            self.numbered.reserve(more);
+        }
 
         pub fn insert(&mut self, key: K, value: V) {
-            if let Some(&place) = self.places.get(&key) {
-                self.listed[place].1 = value;
-                return;
+            let number = self.numbered.len();
+            match self.numbered.entry(key) {
+                hash_map::Entry::Occupied(mut found) => found.get_mut().0 = value,
+                hash_map::Entry::Vacant(free) => {
+                    free.insert((value, number));
+                }
             }
-            self.places.insert(key.clone(), self.listed.len());
-            self.listed.push((key, value));
         }
 
         pub fn get(&self, key: &K) -> Option<&V> {
-            self.places.get(key).map(|&place| &self.listed[place].1)
+            self.numbered.get(key).map(|found| &found.0)
         }
 
         pub fn entry(&mut self, key: K) -> Entry<'_, K, V> {
@@ -349,18 +375,11 @@ pub mod hash {
         }
     }
 
-    impl<'a, K: Clone + Eq + Hash, V> Entry<'a, K, V> {
+    impl<'a, K: Eq + Hash, V> Entry<'a, K, V> {
         pub fn or_insert(self, value: V) -> &'a mut V {
-            let place = match self.map.places.get(&self.key) {
-                Some(&place) => place,
-                None => {
-                    let place = self.map.listed.len();
-                    self.map.places.insert(self.key.clone(), place);
-                    self.map.listed.push((self.key, value));
-                    place
-                }
-            };
-            &mut self.map.listed[place].1
+            let numbered = &mut self.map.numbered;
+            let number = numbered.len();
+            &mut numbered.entry(self.key).or_insert((value, number)).0
         }
     }
 
@@ -368,7 +387,10 @@ pub mod hash {
         type Item = (K, V);
         type IntoIter = std::vec::IntoIter<(K, V)>;
         fn into_iter(self) -> Self::IntoIter {
-            self.listed.into_iter()
+            let mut listed: Vec<_> = self.numbered.into_iter().collect();
+            listed.sort_unstable_by_key(|(_, (_, number))| *number);
+            let plain = listed.into_iter().map(|(key, (value, _))| (key, value));
+            plain.collect::<Vec<_>>().into_iter()
         }
     }
 }

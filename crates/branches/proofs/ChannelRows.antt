@@ -140,9 +140,8 @@ module _ (w q m i : ℕ) (d : Complex64) (ws : List ℕ) (cs : List Float) (room
   whole : length k ≡ s
   whole = flipAt-length (keyAt s ws i) (zAt w q) ∙ length-key s ws i (room-at room i (omega arith) .0)
 
-  module _ {f : Found} (is : f ≡ first (λ j. sameKey (keyAt s ws j) (partnerBy w (Z q) (keyAt s ws i))) m) where
+  module _ {f : Found} (is : f ≡ first (λ j. sameKey (keyAt s ws j) k) m) where
     found : rowOf (length ts) k ts ≡ f
-    unfolding partnerBy
     found =
         ap (λ (n : ℕ). first (λ j. sameKey (getD ts j noTerm .key) k) n) long
         ∙ first-ext (λ j. sameKey (getD ts j noTerm .key) k) (λ j. sameKey (keyAt s ws j) k) m
@@ -150,7 +149,7 @@ module _ (w q m i : ℕ) (d : Complex64) (ws : List ℕ) (cs : List Float) (room
         ∙ sym is
 
     pub insert-below : (j : ℕ) → f ≡ At j → j < m
-    insert-below j e = first-at (λ j. sameKey (keyAt s ws j) (partnerBy w (Z q) (keyAt s ws i))) m j (sym is ∙ e) .0
+    insert-below j e = first-at (λ j. sameKey (keyAt s ws j) k) m j (sym is ∙ e) .0
 
     pub insert-new : {ws′ : List ℕ} {cs′ : List Float} → f ≡ Nothing → ws′ ≡ putKey s ws m (partnerBy w (Z q) (keyAt s ws i)) → cs′ ≡ putCoeff cs m d
         → Holds s (m + 1) (m + 1) (insert ts (term k d)) ws ws′ cs cs′

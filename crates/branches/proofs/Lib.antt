@@ -1,4 +1,13 @@
 mod ProbeLaws
+mod ChainLaws
+mod HashLaws
+mod WalkLaws
+mod FileLaws
+mod PartnerLaws
 mod RotationRows
 pub mod RotatedLaws
 mod ChannelRows
+mod IndexRows
+mod YLaws
+mod ShareLaws
+mod StartLaws

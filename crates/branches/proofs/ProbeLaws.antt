@@ -1,27 +1,30 @@
--- A partner's key word by word, and what the functions on one key and one row compute. Assumes nothing.
+-- The key looked for from a row, word by word, and what the functions on one key compute. Assumes nothing.
 use mathlib.Core.Path.{_≡_, refl, sym, ap, ap₂, _∙_, subst}
-use mathlib.Core.Bool.{Bool, true, false, cond}
+use mathlib.Core.Bool.{Bool, true, false, not, cond, _||_}
 use mathlib.Core.Logic.{⊎-elim}
-use mathlib.Core.List.{List, _++_}
+use mathlib.Core.List.{List}
 use Prim.Native.Nat.{ℕ, _+_, _-_, _*_, _/_, _%_, _^_, _≤_, _<_}
 use native.Mathlib.Nat.{one-mul, zero-add, add-sub-cancel-left}
 use native.Mathlib.Omega.{arith}
-use lib.Dec.{eqb}
+use lib.Dec.{ltb}
 use lib.Pow.{shl-exact}
 use lib.Bits.{bitXor}
 use lib.ListN.{length, getD, take, drop}
-use lib.Seq.{ext-getD, drop-drop}
-use borrow.Author.Tests.{eq-eqb, ne-eqb}
+use lib.Seq.{ext-getD}
+use borrow.Author.Tests.{eq-eqb, ne-eqb, lt-ltb, le-ltb}
 use Rattle.words.specs.Keys.{Key, _⊕_, bitAt, flipOf, flipAt, zAt, sameKey}
 use Rattle.words.proofs.WordLaws.{xor-flip}
-use Rattle.words.proofs.KeyLaws.{flipAt-length, flipAt-word, flipAt-other-word, sameKey-refl, sameKey-differ}
+use Rattle.words.proofs.KeyLaws.{flipAt-length, flipAt-word, flipAt-other-word, flipAt-twice, bitAt-cleared, sameKey-refl, sameKey-differ}
 use Rattle.terms.specs.declared.Axis.{Axis}
 use Rattle.terms.specs.declared.Axis.the-variants.{Z, Zz}
-use Rattle.terms.specs.Rotation.{metBy, partnerBy}
-use Rattle.terms.proofs.CaseLaws.{eq-or-ne}
-use Rattle.rows.specs.Rows.{keyAt, putKey}
-use Rattle.branches.specs.Probe.{flippedWord, partnerWord}
-use Rattle.rows.proofs.RowLaws.{word-at, length-key, key-put-same, put-key-put}
+use Rattle.terms.specs.Rotation.{metBy, partnerBy, onKey}
+use Rattle.terms.proofs.CaseLaws.{eq-or-ne, lt-or-le}
+use Rattle.terms.proofs.AxisLaws.{partner-back, partner-length, partner-met}
+use Rattle.rows.specs.Rows.{keyAt}
+use Rattle.rows.proofs.RowLaws.{word-at, length-key}
+use Rattle.branches.specs.declared.Sought.{Sought}
+use Rattle.branches.specs.declared.Sought.the-variants.{Same, Partner, Identity}
+use Rattle.branches.specs.Probe.{soughtBy, files, flippedWord, partnerWord, soughtWord}
 
 -- ---- one word
 
@@ -54,59 +57,78 @@ flipped-word w q key k h = ⊎-elim
     ∙ sym (ap (λ (b : Bool). cond b (flipOf (getD key k 0) (zAt w q % 64)) (getD key k 0)) (ne-eqb k (zAt w q / 64) n)))
     (eq-or-ne k (zAt w q / 64))
 
-pub partner-word : (w : ℕ) (x : Axis) (key : Key) (k : ℕ) → k < length key → getD (partnerBy w x key) k 0 ≡ partnerWord w x k (getD key k 0)
+partner-word : (w : ℕ) (x : Axis) (key : Key) (k : ℕ) → k < length key → getD (partnerBy w x key) k 0 ≡ partnerWord w x k (getD key k 0)
 unfolding partnerBy partnerWord
 partner-word w (Z q) key k h = flipped-word w q key k h
 partner-word w (Zz a b) key k h =
     flipped-word w b (flipAt key (zAt w a)) k (subst (λ (n : ℕ). k < n) (sym (flipAt-length key (zAt w a))) h)
     ∙ ap (flippedWord w b k) (flipped-word w a key k h)
 
-pub partner-length : (w : ℕ) (x : Axis) (key : Key) → length (partnerBy w x key) ≡ length key
-unfolding partnerBy
-partner-length w (Z q) key = flipAt-length key (zAt w q)
-partner-length w (Zz a b) key = flipAt-length (flipAt key (zAt w a)) (zAt w b) ∙ flipAt-length key (zAt w a)
+sought-word : (w : ℕ) (s : Sought) (key : Key) (k : ℕ) → k < length key → getD (soughtBy w s key) k 0 ≡ soughtWord w s k (getD key k 0)
+unfolding soughtWord
+sought-word w Same key k h = refl
+sought-word w (Partner x) key k h = partner-word w x key k h
+sought-word w (Identity q) key k h = flipped-word w q key k h
 
--- ---- the key of row j and that of row i's partner
+-- ---- the key looked for
 
-module _ (w : ℕ) (x : Axis) (ws : List ℕ) (i j : ℕ) (hi : i * (2 * w) + 2 * w ≤ length ws) where
-  abbrev s : ℕ
-  s = 2 * w
+sought-length : (w : ℕ) (s : Sought) (key : Key) → length (soughtBy w s key) ≡ length key
+sought-length w Same key = refl
+sought-length w (Partner x) key = partner-length w x key
+sought-length w (Identity q) key = flipAt-length key (zAt w q)
 
-  word : (k : ℕ) → k < s → getD (partnerBy w x (keyAt s ws i)) k 0 ≡ partnerWord w x k (getD ws (i * s + k) 0)
+-- what is looked for from it is the first key
+pub sought-back : (w : ℕ) (s : Sought) (key : Key) → soughtBy w s (soughtBy w s key) ≡ key
+sought-back w Same key = refl
+sought-back w (Partner x) key = partner-back w x key
+sought-back w (Identity q) key = flipAt-twice key (zAt w q)
+
+-- a met key, and its partner, are in an index of partners
+pub met-files : (w : ℕ) (x : Axis) (k : Key) → metBy x k ≡ true → files w (Partner x) k ≡ true
+met-files w x k e = ap (λ (b : Bool). b || not (onKey w x)) e
+
+pub partner-files : (w : ℕ) (x : Axis) (k : Key) → metBy x k ≡ true → files w (Partner x) (partnerBy w x k) ≡ true
+partner-files w x k e = go (onKey w x) refl (metBy x (partnerBy w x k)) refl
+  where
+    go : (b : Bool) → onKey w x ≡ b → (m : Bool) → metBy x (partnerBy w x k) ≡ m → m || not b ≡ true
+    go b o true p = refl
+    go false o false p = refl
+    go true o false p = sym p ∙ partner-met w x k o ∙ e
+
+-- the word with z cleared is in an index of identity branches
+pub identity-files : (w q : ℕ) (k : Key) → bitAt k (zAt w q) ≡ true → files w (Identity q) (flipAt k (zAt w q)) ≡ true
+identity-files w q k e = ap not (bitAt-cleared k (zAt w q) e)
+
+-- ---- the key of row j and that looked for from row i
+
+module _ (w : ℕ) (s : Sought) (ws : List ℕ) (i : ℕ) (hi : i * (2 * w) + 2 * w ≤ length ws) where
+  pub whole : length (soughtBy w s (keyAt (2 * w) ws i)) ≡ 2 * w
+  whole = sought-length w s (keyAt (2 * w) ws i) ∙ length-key (2 * w) ws i hi
+
+  pub word : (k : ℕ) → k < 2 * w → getD (soughtBy w s (keyAt (2 * w) ws i)) k 0 ≡ soughtWord w s k (getD ws (i * (2 * w) + k) 0)
   word k h =
-      partner-word w x (keyAt s ws i) k (subst (λ (n : ℕ). k < n) (sym (length-key s ws i hi)) h) ∙ ap (partnerWord w x k) (word-at s ws i k h)
+      sought-word w s (keyAt (2 * w) ws i) k (subst (λ (n : ℕ). k < n) (sym (length-key (2 * w) ws i hi)) h)
+      ∙ ap (soughtWord w s k) (word-at (2 * w) ws i k h)
 
-  pub probe-differs : (k : ℕ) → k < s → (getD ws (j * s + k) 0 ≡ partnerWord w x k (getD ws (i * s + k) 0) → ⊥)
-      → sameKey (keyAt s ws j) (partnerBy w x (keyAt s ws i)) ≡ false
-  probe-differs k h n = sameKey-differ (keyAt s ws j) (partnerBy w x (keyAt s ws i)) k (λ e. n (sym (word-at s ws j k h) ∙ e ∙ word k h))
+  pub probe-differs : (j k : ℕ) → k < 2 * w → (getD ws (j * (2 * w) + k) 0 ≡ soughtWord w s k (getD ws (i * (2 * w) + k) 0) → ⊥)
+      → sameKey (keyAt (2 * w) ws j) (soughtBy w s (keyAt (2 * w) ws i)) ≡ false
+  probe-differs j k h n =
+      sameKey-differ (keyAt (2 * w) ws j) (soughtBy w s (keyAt (2 * w) ws i)) k (λ e. n (sym (word-at (2 * w) ws j k h) ∙ e ∙ word k h))
 
-  pub probe-same : j * s + s ≤ length ws → ((k : ℕ) → k < s → getD ws (j * s + k) 0 ≡ partnerWord w x k (getD ws (i * s + k) 0))
-      → sameKey (keyAt s ws j) (partnerBy w x (keyAt s ws i)) ≡ true
-  probe-same hj f =
-      let lj = length-key s ws j hj in
-      let both : keyAt s ws j ≡ partnerBy w x (keyAt s ws i) =
-      ext-getD 0 (keyAt s ws j) (partnerBy w x (keyAt s ws i)) (lj ∙ sym (partner-length w x (keyAt s ws i) ∙ length-key s ws i hi))
-      (λ k h. let b : k < s = omega arith in word-at s ws j k b ∙ f k b ∙ sym (word k b)) in
-      ap (sameKey (keyAt s ws j)) (sym both) ∙ sameKey-refl (keyAt s ws j)
+  pub probe-same : (j : ℕ) → j * (2 * w) + 2 * w ≤ length ws
+      → ((k : ℕ) → k < 2 * w → getD ws (j * (2 * w) + k) 0 ≡ soughtWord w s k (getD ws (i * (2 * w) + k) 0))
+      → sameKey (keyAt (2 * w) ws j) (soughtBy w s (keyAt (2 * w) ws i)) ≡ true
+  probe-same j hj f =
+      let lj = length-key (2 * w) ws j hj in
+      let both : keyAt (2 * w) ws j ≡ soughtBy w s (keyAt (2 * w) ws i) =
+      ext-getD 0 (keyAt (2 * w) ws j) (soughtBy w s (keyAt (2 * w) ws i)) (lj ∙ sym whole)
+      (λ k h. let b : k < 2 * w = omega arith in word-at (2 * w) ws j k b ∙ f k b ∙ sym (word k b)) in
+      ap (sameKey (keyAt (2 * w) ws j)) (sym both) ∙ sameKey-refl (keyAt (2 * w) ws j)
 
 -- ---- one row as a part of the buffer
 
 pub part-key : (s i : ℕ) (ws : List ℕ) → take (i * s + s - i * s) (drop (i * s) ws) ≡ keyAt s ws i
 part-key s i ws = ap (λ (n : ℕ). take n (drop (i * s) ws)) (add-sub-cancel-left (i * s) s)
-
-pub part-put : (s i : ℕ) (ws : List ℕ) {k l : Key} → k ≡ l
-    → take (i * s) ws ++ (k ++ drop (i * s + s - i * s) (drop (i * s) ws)) ≡ putKey s ws i l
-part-put s i ws {k} {l} e =
-    ap₂ (λ (x : Key) (n : ℕ). take (i * s) ws ++ (x ++ drop n (drop (i * s) ws))) e (add-sub-cancel-left (i * s) s)
-    ∙ ap (λ (r : List ℕ). take (i * s) ws ++ (l ++ r)) (drop-drop s (i * s) ws)
-
--- a row copied to a later one, and flipped there
-pub appended-key : (s i m : ℕ) (f : Key → Key) (ws : List ℕ) {ws₁ ws₂ : List ℕ} → i * s + s ≤ length ws → m * s + s ≤ length ws
-    → ws₁ ≡ putKey s ws m (keyAt s ws i) → ws₂ ≡ putKey s ws₁ m (f (keyAt s ws₁ m)) → ws₂ ≡ putKey s ws m (f (keyAt s ws i))
-appended-key s i m f ws {ws₁} hi hm e₁ e₂ =
-    let l = length-key s ws i hi in
-    let k : keyAt s ws₁ m ≡ keyAt s ws i = ap (λ (x : List ℕ). keyAt s x m) e₁ ∙ key-put-same s ws m (keyAt s ws i) hm l in
-    e₂ ∙ (λ z. putKey s (e₁ z) m (f (k z))) ∙ put-key-put s ws m (keyAt s ws i) (f (keyAt s ws i)) hm l
 
 -- ---- one key
 
@@ -118,10 +140,6 @@ pub met-two : (x : Axis) (a b : ℕ) (k : Key) {r s : Bool} → x ≡ Zz a b →
 unfolding metBy
 met-two x a b k e h g = ap₂ _⊕_ (h ∙ ap (bitAt k) (zero-add a)) (g ∙ ap (bitAt k) (zero-add b)) ∙ ap (λ (y : Axis). metBy y k) (sym e)
 
-pub flip-one : (w : ℕ) (x : Axis) (q : ℕ) (k : Key) {l : Key} → x ≡ Z q → l ≡ flipAt k (zAt w q) → l ≡ partnerBy w x k
-unfolding partnerBy
-flip-one w x q k e h = h ∙ ap (λ (y : Axis). partnerBy w y k) (sym e)
-
-pub flip-two : (w : ℕ) (x : Axis) (a b : ℕ) (k : Key) {l m : Key} → x ≡ Zz a b → l ≡ flipAt k (zAt w a) → m ≡ flipAt l (zAt w b) → m ≡ partnerBy w x k
-unfolding partnerBy
-flip-two w x a b k e h g = g ∙ ap (λ (y : Key). flipAt y (zAt w b)) h ∙ ap (λ (y : Axis). partnerBy w y k) (sym e)
+-- a qubit that the words have
+pub on-one : (w q : ℕ) → ltb (q / 64) w ≡ ltb q (64 * w)
+on-one w q = ⊎-elim (λ (h : q / 64 < w). lt-ltb (q / 64) w h ∙ sym (lt-ltb q (64 * w) (omega arith))) (λ (h : w ≤ q / 64). le-ltb (q / 64) w h ∙ sym (le-ltb q (64 * w) (omega arith))) (lt-or-le (q / 64) w)

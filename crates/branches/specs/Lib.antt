@@ -1,3 +1,5 @@
 pub mod Rotated
 pub mod Letters
 pub mod Probe
+pub mod Chains
+pub mod Started

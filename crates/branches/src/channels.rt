@@ -1,6 +1,6 @@
 // A noise channel on every term.
 ghost use mathlib.Core.Path.{_≡_};
-ghost use mathlib.Core.Bool.{_||_};
+ghost use mathlib.Core.Bool.{true, false, _||_};
 ghost use mathlib.Core.List.{map};
 ghost use Prim.Native.Nat.{_+_, _*_, _≤_, _<_};
 ghost use lib.ListN.{length};
@@ -8,7 +8,11 @@ ghost use Rattle.words.specs.Keys.{flipAt, zAt, hasLetter};
 ghost use Rattle.terms.specs.Channel.{isZLetter, insert, branch, branchesTo, withBranches, scaledLetter, scaledLocal, scaledEither, channeled};
 ghost use Rattle.terms.specs.Term.{term};
 ghost use Rattle.branches.specs.Letters.{letterOf};
+ghost use Rattle.branches.specs.declared.Sought.the-variants.{Identity};
+ghost use Rattle.branches.specs.Chains.{Indexed, Spare};
 ghost use Rattle.rows.specs.Rows.{keyAt, termAt, termsIn, putCoeff, Room, Holds, Grown};
+use crate::Sought;
+use crate::chains;
 use crate::partners;
 use rows::row;
 use terms::Axis;
@@ -83,20 +87,25 @@ fn row_is_z(words: &[u64], w: usize, i: usize, q: usize) -> bool
 fn insert_identity(
     words: &mut [u64],
     coeffs: &mut [f64],
+    index: &mut [u32],
+    buckets: usize,
     w: usize,
     m: usize,
     i: usize,
     q: usize,
     d: Complex64,
 ) -> usize
-    requires { ⌜ (i < m) × Room (2 * w) (m + 1) (now words) (now coeffs) ⌝ }
+    requires { ⌜ (i < m) × Room (2 * w) (m + 1) (now words) (now coeffs) × (isZLetter w q (keyAt (2 * w) (now words) i) ≡ true)
+        × Spare (m + 1) buckets (length (now index)) × Indexed (Identity q) false w (now words) m buckets (now index) ⌝ }
     ensures { λ r. ⌜ (m ≤ r) × (r ≤ m + 1) × Holds (2 * w) r r
         (insert (termsIn (2 * w) m (now (words .entry)) (now (coeffs .entry))) (term (flipAt (keyAt (2 * w) (now (words .entry)) i) (zAt w q)) d))
-        (now (words .entry)) (now (words .exit)) (now (coeffs .entry)) (now (coeffs .exit)) ⌝ }
+        (now (words .entry)) (now (words .exit)) (now (coeffs .entry)) (now (coeffs .exit))
+        × Indexed (Identity q) false w (now (words .exit)) r buckets (now (index .exit)) ⌝ }
 {
-    let found = partners::find_partner(words, w, m, i, Axis::Z(q));
+    let found = chains::find(words, w, m, index, buckets, Sought::Identity(q), false, i);
     let Found::At(j) = found else {
         partners::append_partner(words, coeffs, w, m, i, Axis::Z(q), d);
+        chains::push(words, w, m, Sought::Identity(q), index, buckets);
         return m + 1;
     };
     let u = row::value_at(coeffs, j);
@@ -108,20 +117,24 @@ fn insert_identity(
 fn branch_identity(
     words: &mut [u64],
     coeffs: &mut [f64],
+    index: &mut [u32],
+    buckets: usize,
     w: usize,
     m: usize,
     i: usize,
     q: usize,
     f: f64,
 ) -> usize
-    requires { ⌜ (i < m) × Room (2 * w) (m + 1) (now words) (now coeffs) ⌝ }
+    requires { ⌜ (i < m) × Room (2 * w) (m + 1) (now words) (now coeffs)
+        × Spare (m + 1) buckets (length (now index)) × Indexed (Identity q) false w (now words) m buckets (now index) ⌝ }
     ensures { λ r. ⌜ (m ≤ r) × (r ≤ m + 1) × Holds (2 * w) r r
         (branch w q f (termsIn (2 * w) m (now (words .entry)) (now (coeffs .entry))) (termAt (2 * w) (now (words .entry)) (now (coeffs .entry)) i))
-        (now (words .entry)) (now (words .exit)) (now (coeffs .entry)) (now (coeffs .exit)) ⌝ }
+        (now (words .entry)) (now (words .exit)) (now (coeffs .entry)) (now (coeffs .exit))
+        × Indexed (Identity q) false w (now (words .exit)) r buckets (now (index .exit)) ⌝ }
 {
     if row_is_z(words, w, i, q) {
         let c = row::value_at(coeffs, i);
-        return insert_identity(words, coeffs, w, m, i, q, c.scaled(f));
+        return insert_identity(words, coeffs, index, buckets, w, m, i, q, c.scaled(f));
     }
     m
 }
@@ -130,19 +143,22 @@ fn branch_identity(
 fn add_identity_branches(
     words: &mut [u64],
     coeffs: &mut [f64],
+    index: &mut [u32],
+    buckets: usize,
     w: usize,
     n: usize,
     q: usize,
     f: f64,
 ) -> usize
-    requires { ⌜ Room (2 * w) (2 * n) (now words) (now coeffs) ⌝ }
+    requires { ⌜ Room (2 * w) (2 * n) (now words) (now coeffs)
+        × Spare (2 * n) buckets (length (now index)) × Indexed (Identity q) false w (now words) n buckets (now index) ⌝ }
     ensures { λ r. ⌜ (r ≤ 2 * n) × Holds (2 * w) r r (branchesTo w q f n (termsIn (2 * w) n (now (words .entry)) (now (coeffs .entry))))
         (now (words .entry)) (now (words .exit)) (now (coeffs .entry)) (now (coeffs .exit)) ⌝ }
 {
     let mut m = n;
     let mut i = 0;
     while i < n {
-        m = branch_identity(words, coeffs, w, m, i, q, f);
+        m = branch_identity(words, coeffs, index, buckets, w, m, i, q, f);
         i += 1;
     }
     m
@@ -196,6 +212,7 @@ fn scale_eithers(words: &[u64], coeffs: &mut [f64], w: usize, n: usize, a: usize
 fn apply_local(
     words: &mut [u64],
     coeffs: &mut [f64],
+    index: &mut [u32],
     w: usize,
     n: usize,
     q: usize,
@@ -211,16 +228,18 @@ fn apply_local(
         scale_letters(words, coeffs, w, n, q, lambda);
         return n;
     }
-    let m = add_identity_branches(words, coeffs, w, n, q, z_to_identity);
+    let buckets = chains::build(words, w, n, 2 * n, Sought::Identity(q), index);
+    let m = add_identity_branches(words, coeffs, index, buckets, w, n, q, z_to_identity);
     scale_letters(words, coeffs, w, m, q, lambda);
     m
 }
 
 // Takes each of the first n terms backward through a channel, at a and, for a channel on two targets, b. The answer is the number of
-// terms, where there are 2 * n rows; else nothing changes.
+// terms, where there are 2 * n rows; else nothing changes. What the memory of the index then holds is free.
 pub fn apply_backward_channel(
     words: &mut [u64],
     coeffs: &mut [f64],
+    index: &mut [u32],
     w: usize,
     n: usize,
     action: ChannelAction,
@@ -236,7 +255,16 @@ pub fn apply_backward_channel(
     let kind = action.kind;
     let lambda = action.lambda;
     match kind {
-        ChannelKind::Local => apply_local(words, coeffs, w, n, a, lambda, action.z_to_identity),
+        ChannelKind::Local => apply_local(
+            words,
+            coeffs,
+            index,
+            w,
+            n,
+            a,
+            lambda,
+            action.z_to_identity,
+        ),
         ChannelKind::Depolarizing2q => {
             scale_eithers(words, coeffs, w, n, a, b, lambda[0]);
             n

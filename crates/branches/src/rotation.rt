@@ -3,12 +3,18 @@ ghost use mathlib.Core.Path.{_≡_};
 ghost use mathlib.Core.List.{map};
 ghost use Prim.Native.Nat.{_+_, _*_, _≤_, _<_};
 ghost use lib.ListN.{length};
+ghost use Rattle.numbers.specs.Tests.{isZero};
 ghost use Rattle.terms.specs.Rotation.{metBy, partnerBy, scaledMet, mixed};
 ghost use Rattle.terms.specs.Branch.{branchLone, branchRow, branchTo};
 ghost use Rattle.terms.specs.declared.Axis.the-variants.{Z, Zz};
 ghost use Rattle.rows.specs.Rows.{coeffAt, termAt, termsIn, putCoeff, Room, Holds};
+ghost use Rattle.branches.specs.declared.Sought.the-variants.{Partner};
+ghost use Rattle.branches.specs.Chains.{Indexed};
 ghost use Rattle.branches.specs.Rotated.{Rotated};
+use crate::Sought;
+use crate::chains;
 use crate::partners;
+use crate::probe;
 use rows::row;
 use terms::Axis;
 use terms::Found;
@@ -18,7 +24,7 @@ fn scale_row(words: &[u64], coeffs: &mut [f64], w: usize, i: usize, axis: Axis, 
     requires { ⌜ (i * (2 * w) + 2 * w ≤ length (now words)) × (2 * i + 1 < length (now coeffs)) ⌝ }
     ensures { λ _. ⌜ now (coeffs .exit) ≡ putCoeff (now (coeffs .entry)) i (scaledMet (metBy axis) (partnerBy w axis) sin cos (termAt (2 * w) (now (words .entry)) (now (coeffs .entry)) i) .coeff) ⌝ }
 {
-    if partners::row_met(words, w, i, axis) {
+    if probe::row_met(words, w, i, axis) {
         let v = row::value_at(coeffs, i);
         row::store_value(coeffs, i, v.scaled(cos));
     }
@@ -78,6 +84,8 @@ fn lone_row(
 fn branch_row(
     words: &mut [u64],
     coeffs: &mut [f64],
+    index: &[u32],
+    buckets: usize,
     w: usize,
     n: usize,
     m: usize,
@@ -86,14 +94,24 @@ fn branch_row(
     sin: f64,
     cos: f64,
 ) -> usize
-    requires { ⌜ (i < n) × (n ≤ m) × Room (2 * w) (m + 1) (now words) (now coeffs) ⌝ }
+    requires { ⌜ (i < n) × (n ≤ m) × Room (2 * w) (m + 1) (now words) (now coeffs)
+        × Indexed (Partner axis) (isZero cos) w (now words) n buckets (now index) ⌝ }
     ensures { λ r. ⌜ (m ≤ r) × (r ≤ m + 1) × Holds (2 * w) r r (branchRow (metBy axis) (partnerBy w axis) sin cos n i (termsIn (2 * w) m (now (words .entry)) (now (coeffs .entry))))
         (now (words .entry)) (now (words .exit)) (now (coeffs .entry)) (now (coeffs .exit)) ⌝ }
 {
-    if !partners::row_met(words, w, i, axis) {
+    if !probe::row_met(words, w, i, axis) {
         return m;
     }
-    let found = partners::find_partner(words, w, n, i, axis);
+    let found = chains::find(
+        words,
+        w,
+        n,
+        index,
+        buckets,
+        Sought::Partner(axis),
+        cos == 0.0,
+        i,
+    );
     let Found::At(j) = found else {
         return lone_row(words, coeffs, w, m, i, axis, sin, cos);
     };
@@ -106,20 +124,22 @@ fn branch_row(
 fn branch_rows(
     words: &mut [u64],
     coeffs: &mut [f64],
+    index: &[u32],
+    buckets: usize,
     w: usize,
     n: usize,
     axis: Axis,
     sin: f64,
     cos: f64,
 ) -> usize
-    requires { ⌜ Room (2 * w) (2 * n) (now words) (now coeffs) ⌝ }
+    requires { ⌜ Room (2 * w) (2 * n) (now words) (now coeffs) × Indexed (Partner axis) (isZero cos) w (now words) n buckets (now index) ⌝ }
     ensures { λ r. ⌜ (r ≤ 2 * n) × Holds (2 * w) r r (branchTo (metBy axis) (partnerBy w axis) sin cos n n (termsIn (2 * w) n (now (words .entry)) (now (coeffs .entry))))
         (now (words .entry)) (now (words .exit)) (now (coeffs .entry)) (now (coeffs .exit)) ⌝ }
 {
     let mut m = n;
     let mut i = 0;
     while i < n {
-        m = branch_row(words, coeffs, w, n, m, i, axis, sin, cos);
+        m = branch_row(words, coeffs, index, buckets, w, n, m, i, axis, sin, cos);
         i += 1;
     }
     m
@@ -128,6 +148,7 @@ fn branch_rows(
 fn branch(
     words: &mut [u64],
     coeffs: &mut [f64],
+    index: &mut [u32],
     w: usize,
     n: usize,
     axis: Axis,
@@ -143,13 +164,16 @@ fn branch(
         scale_rows(words, coeffs, w, n, axis, sin, cos);
         return n;
     }
-    branch_rows(words, coeffs, w, n, axis, sin, cos)
+    let buckets = chains::build(words, w, n, n, Sought::Partner(axis), index);
+    branch_rows(words, coeffs, index, buckets, w, n, axis, sin, cos)
 }
 
 // A rotation about Z at one qubit: t, tdg, rz and p. The answer is the number of terms, where there are 2 * n rows; else nothing changes.
+// What the memory of the index then holds is free.
 pub fn branch_z_rotation(
     words: &mut [u64],
     coeffs: &mut [f64],
+    index: &mut [u32],
     w: usize,
     n: usize,
     qubit: usize,
@@ -158,13 +182,14 @@ pub fn branch_z_rotation(
 ) -> usize
     ensures { λ r. ⌜ Rotated w n (Z qubit) sin cos r (now (words .entry)) (now (words .exit)) (now (coeffs .entry)) (now (coeffs .exit)) ⌝ }
 {
-    branch(words, coeffs, w, n, Axis::Z(qubit), sin, cos)
+    branch(words, coeffs, index, w, n, Axis::Z(qubit), sin, cos)
 }
 
-// A rotation about ZZ at two qubits: rzz.
+// A rotation about ZZ at two qubits: rzz. What the memory of the index then holds is free.
 pub fn branch_zz_rotation(
     words: &mut [u64],
     coeffs: &mut [f64],
+    index: &mut [u32],
     w: usize,
     n: usize,
     a: usize,
@@ -174,5 +199,5 @@ pub fn branch_zz_rotation(
 ) -> usize
     ensures { λ r. ⌜ Rotated w n (Zz a b) sin cos r (now (words .entry)) (now (words .exit)) (now (coeffs .entry)) (now (coeffs .exit)) ⌝ }
 {
-    branch(words, coeffs, w, n, Axis::Zz(a, b), sin, cos)
+    branch(words, coeffs, index, w, n, Axis::Zz(a, b), sin, cos)
 }

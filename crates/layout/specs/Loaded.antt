@@ -1,30 +1,48 @@
--- What the loads leave: the ops of a sheet in an array, and its `term` lines in a table. This is defined for every list of lines, laid out or
--- not: a line that is not there is an empty line.
+-- What the loads leave: the ops of a sheet in two slices, and its `term` lines in a table. This is defined for every list of lines, laid out
+-- or not: a line that is not there is an empty line.
 use mathlib.Core.Path.{_≡_}
-use Prim.Native.Nat.{ℕ, _+_, _-_, _*_, min}
+use Prim.Native.Nat.{ℕ, _+_, _*_}
 use mathlib.Core.Bool.{Bool, cond, _&&_}
-use mathlib.Core.List.{List, [], _∷_, _++_}
+use mathlib.Core.List.{List, [], _∷_, _++_, flatten}
 use lib.Dec.{leb}
-use lib.ListN.{length, drop, getD, replicate}
+use lib.ListN.{length, drop, getD}
 use lib.Ieee.{Float}
-use Rattle.words.specs.declared.Gate.the-variants.{Id}
 use Rattle.words.specs.Keys.{Key}
 use Rattle.terms.specs.Lists.{tab, foldl}
 use Rattle.rows.specs.Rows.{keyAt}
 use Rattle.turns.specs.declared.Op.{Op}
-use Rattle.turns.specs.declared.Op.the-variants.{Native}
+use Rattle.turns.specs.OpList.{partsOf, opCount}
 use Rattle.lines.specs.OpLines.{opOn}
 use Rattle.lines.specs.TermLines.{weightOn, factorsOn, placed}
 use Rattle.layout.specs.declared.Head.{Head}
 
--- the ops on the lines after `ops`, at most 4,096, and then the gate id on qubit 0 until there are 4,096 ops
-unfoldable pub loadedOps : Head → List (List ℕ) → List Op
-loadedOps h ls = let n = min (h .ops) 4096 in tab n (λ j. opOn (getD ls (7 + h .terms + j) [])) ++ replicate (4096 - n) (Native Id 0 0)
+-- ---- the ops
 
--- lists one after another, as one list
-unfoldable pub joined : List (List ℕ) → List ℕ
-joined [] = []
-joined (k ∷ ks) = k ++ joined ks
+-- op j of a sheet, counted from 0: it is on the line that has 7 + terms + j lines before it
+abbrev pub opLine : Head → List (List ℕ) → ℕ → Op
+opLine h ls j = opOn (getD ls (7 + h .terms + j) [])
+
+-- the three numbers of an op, and its three reals
+abbrev pub codesOf : Op → List ℕ
+codesOf op = let p = partsOf op in p .code ∷ p .a ∷ p .b ∷ []
+
+abbrev pub realsOf : Op → List Float
+realsOf op = let p = partsOf op in p .x ∷ p .y ∷ p .z ∷ []
+
+-- two slices with the n ops f 0, f 1, ..: the numbers of the ops in order, and behind them those that stood there; the reals likewise
+unfoldable pub codesWith : ℕ → (ℕ → Op) → List ℕ → List ℕ
+codesWith n f codes = flatten (tab n (λ j. codesOf (f j))) ++ drop (3 * n) codes
+
+unfoldable pub realsWith : ℕ → (ℕ → Op) → List Float → List Float
+realsWith n f reals = flatten (tab n (λ j. realsOf (f j))) ++ drop (3 * n) reals
+
+-- The two slices of an op list, before (cs, rs) and after (cs′, rs′): the first ops of a sheet are in them, at most 4,096 and as many as both
+-- hold whole.
+pub record OpsLoaded (h : Head) (ls : List (List ℕ)) (cs cs′ : List ℕ) (rs rs′ : List Float) : Type 0 where
+  pub codes : cs′ ≡ codesWith (opCount (h .ops) (length cs) (length rs)) (opLine h ls) cs
+  pub reals : rs′ ≡ realsWith (opCount (h .ops) (length cs) (length rs)) (opLine h ls) rs
+
+-- ---- the `term` lines
 
 -- row j of a table with the line that has j lines and the first 6 before it: the factors of the line have set their bits in the 2 * w words
 -- that stood in the row
@@ -33,7 +51,7 @@ rowWith w ls keys j = foldl (placed w) (keyAt (2 * w) keys j) (factorsOn (getD l
 
 -- the words of a table with the n lines after the first 6: their n rows in order, and behind them the words that stood there
 unfoldable pub keysWith : ℕ → ℕ → List (List ℕ) → List ℕ → List ℕ
-keysWith w n ls keys = joined (tab n (rowWith w ls keys)) ++ drop (n * (2 * w)) keys
+keysWith w n ls keys = flatten (tab n (rowWith w ls keys)) ++ drop (n * (2 * w)) keys
 
 -- the weights of a table with the n lines after the first 6: their n weights in order, and behind them the numbers that stood there
 unfoldable pub weightsWith : ℕ → List (List ℕ) → List Float → List Float

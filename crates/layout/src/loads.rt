@@ -1,16 +1,16 @@
-// The op list of a sheet as an array, and its `term` lines as a table.
+// The op list of a sheet in two slices, and its `term` lines as a table.
 ghost use mathlib.Core.Path.{_≡_};
-ghost use mathlib.Core.List.{_++_};
-ghost use Prim.Native.Nat.{_+_, _-_, _*_, _≤_, _<_, min};
+ghost use Prim.Native.Nat.{_+_, _*_, _≤_, _<_};
 ghost use lib.Dec.{leb};
-ghost use lib.ListN.{length, set, replicate};
+ghost use lib.ListN.{length, set};
 ghost use Rattle.text.specs.Bytes.{parts, newline};
-ghost use Rattle.terms.specs.Lists.{tab, foldl};
+ghost use Rattle.terms.specs.Lists.{foldl};
 ghost use Rattle.rows.specs.Rows.{keyAt, putKey};
+ghost use Rattle.turns.specs.OpList.{opRoom};
 ghost use Rattle.lines.specs.OpLines.{opOn};
 ghost use Rattle.lines.specs.TermLines.{weightOn, factorsOn, placed};
 ghost use Rattle.layout.specs.Cursor.{lineAt, startAt};
-ghost use Rattle.layout.specs.Loaded.{loadedOps, keysWith, weightsWith, LinesLoaded};
+ghost use Rattle.layout.specs.Loaded.{codesWith, realsWith, OpsLoaded, keysWith, weightsWith, LinesLoaded};
 use crate::Head;
 use crate::cursor::line_at;
 use crate::cursor::next_at;
@@ -18,41 +18,35 @@ use crate::cursor::start_at;
 use lines::oplines::op_on;
 use lines::termlines::place_factors;
 use lines::termlines::weight_on;
-use turns::Op;
-use words::Gate;
+use turns::oplist::op_count;
+use turns::oplist::put_op;
 use words::rows::rows_of;
 
-fn smaller(a: usize, b: usize) -> usize
-    ensures { λ r. ⌜ r ≡ min a b ⌝ }
+// Writes the ops on the n lines from a place on to the first n places of two slices.
+fn fill_ops(s: &[u8], start: usize, n: usize, codes: &mut [usize], reals: &mut [f64])
+    requires { ⌜ n ≤ opRoom (length (now codes)) (length (now reals)) ⌝ }
+    ensures { λ _. ⌜ (now (codes .exit) ≡ codesWith n (λ j. opOn (lineAt (now (s .entry)) (startAt (now (s .entry)) start j))) (now (codes .entry)))
+        × (now (reals .exit) ≡ realsWith n (λ j. opOn (lineAt (now (s .entry)) (startAt (now (s .entry)) start j))) (now (reals .entry))) ⌝ }
 {
-    if a <= b { a } else { b }
-}
-
-// The ops on the n lines from a place on, in the first n places, and the gate id on qubit 0 in the others.
-fn ops_from(s: &[u8], start: usize, n: usize) -> [Op; 4096]
-    requires { ⌜ n ≤ 4096 ⌝ }
-    ensures { λ r. ⌜ r ≡ tab n (λ j. opOn (lineAt (now (s .entry)) (startAt (now (s .entry)) start j))) ++ replicate (4096 - n) (Op.Native Gate.Id 0 0) ⌝ }
-{
-    let mut ops = [Op::Native(Gate::Id, 0, 0); 4096];
     let mut at = start;
     let mut i = 0;
     while i < n {
-        let o = op_on(line_at(s, at));
-        ops[i] = o;
+        let op = op_on(line_at(s, at));
+        put_op(codes, reals, i, op);
         at = next_at(s, at);
         i += 1;
     }
-    ops
 }
 
-// The ops of a sheet, at most 4096 of them, and the gate id on qubit 0 in the other places.
-pub fn load_ops(s: &[u8], head: Head) -> [Op; 4096]
-    ensures { λ r. ⌜ r ≡ loadedOps head (parts newline (now (s .entry))) ⌝ }
+// Writes the first ops of a sheet to two slices, at most 4,096 and as many as both hold: three numbers and three reals to an op.
+pub fn load_ops(s: &[u8], head: Head, codes: &mut [usize], reals: &mut [f64])
+    ensures { λ _. ⌜ OpsLoaded head (parts newline (now (s .entry))) (now (codes .entry)) (now (codes .exit)) (now (reals .entry)) (now (reals .exit)) ⌝ }
 {
     let terms = head.terms;
     let ops = head.ops;
     let at = start_at(s, start_at(s, 0, 7), terms);
-    ops_from(s, at, smaller(ops, 4096))
+    let n = op_count(ops, codes.len(), reals.len());
+    fill_ops(s, at, n, codes, reals);
 }
 
 // Writes a `term` line to line i of a table: the factors set their bits, and the weight is stored.

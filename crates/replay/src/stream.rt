@@ -49,8 +49,9 @@ fn write_too_long(index: usize, out: &mut [u8]) -> usize {
 fn write_answer(s: &[u8], index: usize, out: &mut [u8]) -> usize {
     let mut words = [0u64; 4096];
     let mut coeffs = [0.0f64; 1024];
+    let mut lookup = [0u32; 1537];
     let mut means = [0.0f64; 256];
-    let reply = answer(s, &mut words, &mut coeffs, &mut means);
+    let reply = answer(s, &mut words, &mut coeffs, &mut lookup, &mut means);
     let a = write_count(out, 0, b"#sheet ", index);
     let b = write_printed(out, a, reply, &means);
     let head = read_head(s);

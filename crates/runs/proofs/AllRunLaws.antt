@@ -78,9 +78,9 @@ hold-less H = record { terms = refl; words-kept = H .words-kept; coeffs-kept = H
 abbrev tallied : Tally → Outcome
 tallied t = outcome [] zero64 [] (t .peak) (t .discarded)
 
-pub z-answers : (w : ℕ) (l : Limits) (marks : List Bool) (ops : List Op) (q : ℕ) (t : Tally) (keys : List ℕ) (weights : List Float) {r : Ending} {ws₀ ws : List ℕ} {cs₀ cs : List Float}
+pub z-answers : (w : ℕ) (l : Limits) (marks : List Bool) (ops : List Op) (q : ℕ) (t : Tally) (keys : List ℕ) (weights : List Float) {r : Ending} {ws₀ ws : List ℕ} {cs₀ cs : List Float} {ix ix′ : List ℕ}
     → 1 ≤ l .limit → w ≤ 4 → q < 64 * w → 2 * l .limit ≤ rowsIn w ws₀ cs₀
-    → Ran w (isHeld w l keys weights (Z q t) (rowsIn w ws₀ cs₀)) (startedRun w l keys weights (Z q t) marks ops (rowsIn w ws₀ cs₀)) r ws₀ ws cs₀ cs
+    → Ran w (isHeld w l keys weights (Z q t) (rowsIn w ws₀ cs₀)) (startedRun w l keys weights (Z q t) marks ops (rowsIn w ws₀ cs₀)) r ws₀ ws cs₀ cs ix ix′
     → Answers w r ws₀ ws cs₀ cs (markedRun w l marks ops (zState w q (tallied t)))
 z-answers w l marks ops q t keys weights {r} {ws₀} {ws} {cs₀} {cs} some narrow low room R =
     let run : Stage Outcome = markedRun w l marks ops (zState w q (tallied t)) in
@@ -176,9 +176,9 @@ unfolding filled
 means-left n (Failed e) m₀ m m′ d c = let z : n - 0 ≡ n = omega arith in c ∙ (λ k. replicate (z k) zero64 ++ d k)
 means-left n (Done x j t) m₀ m m′ d c = c ∙ sym (take-append-drop n m) ∙ ap (λ (r : List Float). take n m ++ r) d
 
-pub all-leaves : (w n : ℕ) {R : ℕ} {at : Ending} {ws₀ ws ws′ : List ℕ} {cs₀ cs cs′ m₀ m m′ : List Float} {run : Stage Outcome} → AllTold w n at ws₀ ws cs₀ cs m₀ m run → R ≡ rowsIn w ws₀ cs₀
-    → Cleared w 0 R ws ws′ cs cs′ → m′ ≡ clearedMeans n at m → AllLeaves w n at ws₀ ws′ cs₀ cs′ m₀ m′ run
-all-leaves w n {R} {at} {ws₀} {ws} {ws′} {cs₀} {cs} {cs′} {m₀} {m} {m′} {run} P e C c =
+pub all-leaves : (w n : ℕ) {R k : ℕ} {at : Ending} {ws₀ ws ws′ : List ℕ} {cs₀ cs cs′ m₀ m m′ : List Float} {ix ix′ : List ℕ} {run : Stage Outcome} → AllTold w n at ws₀ ws cs₀ cs m₀ m run → R ≡ rowsIn w ws₀ cs₀
+    → Cleared w 0 R ws ws′ cs cs′ → ix′ ≡ replicate k 0 → k ≡ length ix → m′ ≡ clearedMeans n at m → AllLeaves w n at ws₀ ws′ cs₀ cs′ m₀ m′ ix ix′ run
+all-leaves w n {R} {k} {at} {ws₀} {ws} {ws′} {cs₀} {cs} {cs′} {m₀} {m} {m′} {ix} {ix′} {run} P e C z long c =
     let rows : ℕ = rowsIn w ws₀ cs₀ in
     let S : Stepped w rows rows 0 [] 0 ws₀ ws′ cs₀ cs′ = stepped-cleared w rows (P .rows) 0 zero-le (le-refl rows) (subst (λ (k : ℕ). Cleared w 0 k ws ws′ cs cs′) e C) in
     let full : leb rows rows ≡ true = le-leb rows rows (le-refl rows) in
@@ -187,6 +187,7 @@ all-leaves w n {R} {at} {ws₀} {ws} {ws′} {cs₀} {cs} {cs′} {m₀} {m} {m�
       words = S .words ∙ ap (λ (b : Bool). cond b (wordsWith w rows [] ws₀) ws₀) full;
       coeffs = S .coeffs ∙ ap (λ (b : Bool). cond b (coeffsWith rows [] cs₀) cs₀) full;
       means = means-left n at m₀ m m′ (P .kept) c ∙ ap (λ (s : Stage Outcome). meansOf n s ++ drop n m₀) (P .told);
+      index = z ∙ ap (λ (j : ℕ). replicate j 0) long;
     }
 
 -- ---- the whole run
@@ -207,24 +208,24 @@ zero-number true true e h = (refl, refl)
 zero-number true false e h = absurd (omega arith)
 zero-number false r e h = absurd (omega arith)
 
-module _ (qubits : ℕ) (l : Limits) (ops : List Op) (ws : List ℕ) (cs ms : List Float) {w R number : ℕ} (ew : w ≡ widthOf qubits) (er : R ≡ rowsIn w ws cs)
+module _ (qubits : ℕ) (l : Limits) (ops : List Op) (ws : List ℕ) (cs ms : List Float) (ix : List ℕ) {w R number : ℕ} (ew : w ≡ widthOf qubits) (er : R ≡ rowsIn w ws cs)
     (en : number ≡ earlyAll qubits l R (length ms)) where
   abbrev rows : ℕ
   rows = rowsIn (widthOf qubits) ws cs
 
-  abbrev Told : Bool → Bool → Ending → List ℕ → List Float → List Float → Type 0
-  Told f r end ws′ cs′ ms′ = AllRan qubits (f && r) (ask 2 f (ask 7 r (allRuns (allTask qubits l ops) qubits))) end ws ws′ cs cs′ ms ms′
+  abbrev Told : Bool → Bool → Ending → List ℕ → List Float → List Float → List ℕ → Type 0
+  Told f r end ws′ cs′ ms′ ix′ = AllRan qubits (f && r) (ask 2 f (ask 7 r (allRuns (allTask qubits l ops) qubits))) end ws ws′ cs cs′ ms ms′ ix ix′
 
   asked : number ≡ earlyAll qubits l rows (length ms)
   asked = en ∙ ap (λ (x : ℕ). earlyAll qubits l x (length ms)) (er ∙ ap (λ (v : ℕ). rowsIn v ws cs) ew)
 
-  pub all-refused : 0 < number → AllRan qubits (allHeld qubits l rows (length ms)) (allAsked qubits l ops rows (length ms)) (Failed number) ws ws cs cs ms ms
+  pub all-refused : 0 < number → AllRan qubits (allHeld qubits l rows (length ms)) (allAsked qubits l ops rows (length ms)) (Failed number) ws ws cs cs ms ms ix ix
   all-refused h = go (fitsAll qubits l) (roomAll qubits l rows (length ms)) asked
     where
-      go : (f r : Bool) → number ≡ cond f (cond r 0 7) 2 → Told f r (Failed number) ws cs ms
+      go : (f r : Bool) → number ≡ cond f (cond r 0 7) 2 → Told f r (Failed number) ws cs ms ix
       go true true e = absurd (omega arith)
-      go true false e = record { answer = ap Failed e; words = refl; coeffs = refl; means = refl }
-      go false r e = record { answer = ap Failed e; words = refl; coeffs = refl; means = refl }
+      go true false e = record { answer = ap Failed e; words = refl; coeffs = refl; means = refl; index = refl }
+      go false r e = record { answer = ap Failed e; words = refl; coeffs = refl; means = refl; index = refl }
 
   pub all-given : number ≤ 0 → AllReady w qubits l ws cs ms
   all-given h =
@@ -240,16 +241,16 @@ module _ (qubits : ℕ) (l : Limits) (ops : List Op) (ws : List ℕ) (cs ms : Li
         places = leb-true qubits (length ms) (r .1);
       }
 
-  pub all-on : (over : List Bool) {marks : List Bool} {end : Ending} {ws′ : List ℕ} {cs′ ms′ : List Float} → number ≤ 0 → length ops ≤ length over → marks ≡ overlay (markAll ops) over
-      → AllLeaves w qubits end ws ws′ cs cs′ ms ms′ (allTo w l marks ops qubits)
-      → AllRan qubits (allHeld qubits l rows (length ms)) (allAsked qubits l ops rows (length ms)) end ws ws′ cs cs′ ms ms′
-  all-on over {marks} {end} {ws′} {cs′} {ms′} h long em A =
+  pub all-on : (over : List Bool) {marks : List Bool} {end : Ending} {ws′ : List ℕ} {cs′ ms′ : List Float} {ix′ : List ℕ} → number ≤ 0 → length ops ≤ length over → marks ≡ overlay (markAll ops) over
+      → AllLeaves w qubits end ws ws′ cs cs′ ms ms′ ix ix′ (allTo w l marks ops qubits)
+      → AllRan qubits (allHeld qubits l rows (length ms)) (allAsked qubits l ops rows (length ms)) end ws ws′ cs cs′ ms ms′ ix ix′
+  all-on over {marks} {end} {ws′} {cs′} {ms′} {ix′} h long em A =
       let z = zero-number (fitsAll qubits l) (roomAll qubits l rows (length ms)) asked h in
       let run : Stage Outcome = allRuns (allTask qubits l ops) qubits in
       let same : allTo w l marks ops qubits ≡ run = (λ k. allTo (ew k) l (em k) ops qubits) ∙ all-marks qubits l ops over qubits long in
-      let B : AllLeaves (widthOf qubits) qubits end ws ws′ cs cs′ ms ms′ run =
-      subst (λ (s : Stage Outcome). AllLeaves (widthOf qubits) qubits end ws ws′ cs cs′ ms ms′ s) same
-      (subst (λ (v : ℕ). AllLeaves v qubits end ws ws′ cs cs′ ms ms′ (allTo w l marks ops qubits)) ew A) in
-      subst (λ (f : Bool). Told f (roomAll qubits l rows (length ms)) end ws′ cs′ ms′) (sym (z .0))
-      (subst (λ (r : Bool). Told true r end ws′ cs′ ms′) (sym (z .1))
-      (record { answer = B .answer; words = B .words; coeffs = B .coeffs; means = B .means }))
+      let B : AllLeaves (widthOf qubits) qubits end ws ws′ cs cs′ ms ms′ ix ix′ run =
+      subst (λ (s : Stage Outcome). AllLeaves (widthOf qubits) qubits end ws ws′ cs cs′ ms ms′ ix ix′ s) same
+      (subst (λ (v : ℕ). AllLeaves v qubits end ws ws′ cs cs′ ms ms′ ix ix′ (allTo w l marks ops qubits)) ew A) in
+      subst (λ (f : Bool). Told f (roomAll qubits l rows (length ms)) end ws′ cs′ ms′ ix′) (sym (z .0))
+      (subst (λ (r : Bool). Told true r end ws′ cs′ ms′ ix′) (sym (z .1))
+      (record { answer = B .answer; words = B .words; coeffs = B .coeffs; means = B .means; index = B .index }))

@@ -81,9 +81,9 @@ module _ (qubits : ℕ) (l : Limits) (keys : List ℕ) (weights : List Float) (o
       let r = and-true (question5 t) (question6 t) (and-true (question4 t) (question5 t && question6 t) (p .1) .1) in
       first-marks k (one-line t (q .1)) (targets-below t (counts-say t (q .0) .0) (r .0))
 
-  pub cone-ran : (k : ℕ) {r : Ending} {ws ws′ : List ℕ} {cs cs′ : List Float} → SumRan qubits l keys weights k ops (coneMarks (lettersIn (widthOf qubits) keys) ops) r ws ws′ cs cs′
-      → ConeRan qubits l keys weights k ops r ws ws′ cs cs′
-  cone-ran k {r} {ws} {ws′} {cs} {cs′} R = record {
+  pub cone-ran : (k : ℕ) {r : Ending} {ws ws′ : List ℕ} {cs cs′ : List Float} {ix ix′ : List ℕ}
+      → SumRan qubits l keys weights k ops (coneMarks (lettersIn (widthOf qubits) keys) ops) r ws ws′ cs cs′ ix ix′ → ConeRan qubits l keys weights k ops r ws ws′ cs cs′ ix ix′
+  cone-ran k {r} {ws} {ws′} {cs} {cs′} {ix} {ix′} R = record {
     always = R;
-    cone = λ h. subst (λ (ms : List Bool). SumRan qubits l keys weights k ops ms r ws ws′ cs cs′) (cone-code k h) R;
+    cone = λ h. subst (λ (ms : List Bool). SumRan qubits l keys weights k ops ms r ws ws′ cs cs′ ix ix′) (cone-code k h) R;
   }

@@ -7,7 +7,7 @@ use native.Mathlib.Nat.{le-refl}
 use native.Mathlib.Numerals.{add-one}
 use native.Mathlib.Omega.{arith}
 use lib.Dec.{leb, ltb}
-use lib.ListN.{length, getD}
+use lib.ListN.{length, getD, replicate}
 use lib.Ieee.{Float, nan, binary64, add, mul}
 use borrow.Author.Tests.{le-leb, lt-ltb, leb-true}
 use Rattle.numbers.specs.Constants.{one64}
@@ -26,7 +26,7 @@ use Rattle.turns.specs.declared.Ending.{Ending}
 use Rattle.turns.specs.declared.Ending.the-variants.{Done, Failed}
 use Rattle.turns.specs.declared.Limits.{Limits}
 use Rattle.turns.specs.declared.Op.{Op}
-use Rattle.turns.specs.declared.Start.the-variants.{Alone}
+use Rattle.turns.specs.declared.Start.the-variants.{Lines, Alone}
 use Rattle.turns.specs.declared.Tally.{Tally}
 use Rattle.turns.specs.Turn.{Stage, refused, going, bind, ask, Outcome, outcome}
 use Rattle.turns.specs.Runs.{markedRun, begin}
@@ -57,16 +57,21 @@ module _ (m : Float) (t : Tally) (weight : Float) (end : Ending) where
       (λ z. Held (add binary64 m (mul binary64 weight x)) (tally (p z) (add binary64 (t .discarded) (mul binary64 (a z) (u .discarded)))))
       ∙ sym (ap (added m t weight) e)
 
+-- a table has its lines
+lines-given : (w : ℕ) (l : Limits) (keys : List ℕ) (weights : List Float) (k : ℕ) → isGiven w (l .limit) keys weights (Lines k) ≡ true
+    → (k ≤ l .limit) × (k ≤ length keys / (2 * w)) × (k ≤ length weights)
+lines-given w l keys weights k given =
+    let p = and-true (leb k (l .limit)) _ given in
+    let q = and-true (leb k (length keys / (2 * w))) _ (p .1) in
+    (leb-true _ _ (p .0), leb-true _ _ (q .0), leb-true _ _ (q .1))
+
 module _ (qubits : ℕ) (l : Limits) (keys : List ℕ) (weights : List Float) (k : ℕ) (ops : List Op) (ms : List Bool) (i : ℕ) (ws : List ℕ) (cs : List Float)
     (w : ℕ) (wide : w ≡ widthOf qubits) (inside : i < k) (ready : FoldReady w l keys weights k ws cs) where
   abbrev task : Task
   task = taskIn qubits l keys weights k ops
 
   parts : (k ≤ l .limit) × (k ≤ length keys / (2 * w)) × (k ≤ length weights)
-  parts =
-      let p = and-true (leb k (l .limit)) _ (ready .0) in
-      let q = and-true (leb k (length keys / (2 * w))) _ (p .1) in
-      (leb-true _ _ (p .0), leb-true _ _ (q .0), leb-true _ _ (q .1))
+  parts = lines-given w l keys weights k (ready .0)
 
   alone-given : isGiven w (l .limit) keys weights (Alone i) ≡ true
   alone-given =
@@ -77,14 +82,14 @@ module _ (qubits : ℕ) (l : Limits) (keys : List ℕ) (weights : List Float) (k
   room : leb (2 * l .limit) (rowsIn w ws cs) ≡ true
   room = le-leb _ _ (ready .1)
 
-  pub line-refused : (at : Folded) (n : ℕ) → at ≡ Ended n → Totals w (bind (heldIn at) (addNext task ms (lineAt w keys weights i))) (Ended n) ws ws cs cs
+  pub line-refused : (at : Folded) (n : ℕ) → at ≡ Ended n → Totals w (bind (heldIn at) (addNext task ms (lineAt w keys weights i))) at ws ws cs cs
   line-refused at n e = record {
-    totals = sym (ap (λ (a : Folded). bind (heldIn a) (addNext task ms (lineAt w keys weights i))) e);
+    totals = ap heldIn e ∙ sym (ap (λ (a : Folded). bind (heldIn a) (addNext task ms (lineAt w keys weights i))) e);
     rows = emptied (hold-start (2 * w) (rowsIn w ws cs) 0 ws cs);
   }
 
-  pub line-added : (at : Folded) (m : Float) (t : Tally) {x : Float} {end : Ending} {r : Folded} {ws′ : List ℕ} {cs′ : List Float} → at ≡ Held m t
-      → Ran w (isHeld w l keys weights (Alone i) (rowsIn w ws cs)) (startedRun w l keys weights (Alone i) ms ops (rowsIn w ws cs)) end ws ws′ cs cs′
+  pub line-added : (at : Folded) (m : Float) (t : Tally) {x : Float} {end : Ending} {r : Folded} {ws′ : List ℕ} {cs′ : List Float} {ix ix′ : List ℕ} → at ≡ Held m t
+      → Ran w (isHeld w l keys weights (Alone i) (rowsIn w ws cs)) (startedRun w l keys weights (Alone i) ms ops (rowsIn w ws cs)) end ws ws′ cs cs′ ix ix′
       → x ≡ getD weights i nan → r ≡ added m t x end
       → Totals w (bind (heldIn at) (addNext task ms (lineAt w keys weights i))) r ws ws′ cs cs′
   line-added at m t {x} {end} {r} {ws′} {cs′} e R wt a =
@@ -121,10 +126,15 @@ module _ (t : Task) (ms : List Bool) (f : ℕ → Line) where
     rows = hold-trans (T .rows) (subst (λ (R : ℕ). Holds (2 * w) R 0 [] ws ws′ cs cs′) (held-rows w (T .rows)) (U .rows));
   }
 
--- rows for twice limit, still
-pub ready-again : (w : ℕ) (l : Limits) (keys : List ℕ) (weights : List Float) (k : ℕ) {s : Stage Outcome} {r : Folded} {ws₀ ws : List ℕ} {cs₀ cs : List Float}
-    → FoldReady w l keys weights k ws₀ cs₀ → Totals w s r ws₀ ws cs₀ cs → FoldReady w l keys weights k ws cs
-ready-again w l keys weights k ready T = (ready .0, subst⁻¹ (λ (x : ℕ). 2 * l .limit ≤ x) (held-rows w (T .rows)) (ready .1))
+-- the first lines of a table, and rows for twice limit, still
+pub ready-again : (w : ℕ) (l : Limits) (keys : List ℕ) (weights : List Float) (k j : ℕ) {s : Stage Outcome} {r : Folded} {ws₀ ws : List ℕ} {cs₀ cs : List Float}
+    → j ≤ k → FoldReady w l keys weights k ws₀ cs₀ → Totals w s r ws₀ ws cs₀ cs → FoldReady w l keys weights j ws cs
+ready-again w l keys weights k j h ready T =
+    let p = lines-given w l keys weights k (ready .0) in
+    let a : leb j (l .limit) ≡ true = le-leb j (l .limit) (omega (arith, h, p .0)) in
+    let b : leb j (length keys / (2 * w)) ≡ true = le-leb j _ (omega (arith, h, p .1)) in
+    let d : leb j (length weights) ≡ true = le-leb j (length weights) (omega (arith, h, p .2)) in
+    (λ z. a z && (b z && d z), subst⁻¹ (λ (x : ℕ). 2 * l .limit ≤ x) (held-rows w (T .rows)) (ready .1))
 
 -- ---- the end
 
@@ -155,10 +165,10 @@ none-left (Held m t) = go (isFinite m && isFinite (t .discarded))
     go true = refl
     go false = refl
 
-module _ (w : ℕ) (t : Task) (ms : List Bool) (f : ℕ → Line) (k : ℕ) (e₀ : tab k f ≡ t .lines) {at : Folded} {r : Ending} {n : ℕ} {ws ws′ ws″ : List ℕ} {cs cs′ cs″ : List Float} where
+module _ (w : ℕ) (t : Task) (ms : List Bool) (f : ℕ → Line) (k : ℕ) (e₀ : tab k f ≡ t .lines) {at : Folded} {r : Ending} {n m : ℕ} {ws ws′ ws″ : List ℕ} {cs cs′ cs″ : List Float} {ix ix′ : List ℕ} where
   pub folds : Totals w (foldLines t ms (tab k f) nothingYet) at ws ws′ cs cs′ → n ≡ rowsIn w ws′ cs′ → Cleared w 0 n ws′ ws″ cs′ cs″
-      → r ≡ endingOf (bind (heldIn at) askTotals) → Folds w (folded t ms) r ws ws″ cs cs″
-  folds T e C a =
+      → ix′ ≡ replicate m 0 → m ≡ length ix → r ≡ endingOf (bind (heldIn at) askTotals) → Folds w (folded t ms) r ws ws″ cs cs″ ix ix′
+  folds T e C z long a =
       let all : heldIn at ≡ foldLines t ms (t .lines) nothingYet = T .totals ∙ ap (λ (ls : List Line). foldLines t ms ls nothingYet) e₀ in
       let R : ℕ = rowsIn w ws cs in
       let same : n ≡ R = e ∙ held-rows w (T .rows) in
@@ -166,4 +176,5 @@ module _ (w : ℕ) (t : Task) (ms : List Bool) (f : ℕ → Line) (k : ℕ) (e�
         answer = a ∙ ap (λ (s : Stage Outcome). endingOf (bind s askTotals)) all;
         none = ap (λ (s : Stage Outcome). leftBy (bind s askTotals)) (sym all) ∙ none-left at;
         rows = stepped-cleared w R (T .rows) 0 (omega arith) (le-refl R) (subst (λ (k : ℕ). Cleared w 0 k ws′ ws″ cs′ cs″) same C);
+        index = z ∙ ap (λ (j : ℕ). replicate j 0) long;
       }

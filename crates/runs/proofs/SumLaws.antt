@@ -6,7 +6,7 @@ use Prim.Native.Nat.{ℕ, zero, suc, _-_, _*_, _≤_, zero-le}
 use native.Mathlib.Nat.{le-refl}
 use native.Mathlib.Omega.{arith}
 use lib.Dec.{leb, ltb, eqb}
-use lib.ListN.{length, take, drop, replicate, length-map, length-take}
+use lib.ListN.{length, drop, replicate, length-map, length-replicate}
 use lib.Ieee.{Float}
 use borrow.Author.Tests.{le-leb, leb-true}
 use Rattle.numbers.specs.Constants.{zero64, one64}
@@ -24,8 +24,10 @@ use Rattle.turns.specs.declared.Ending.the-variants.{Failed}
 use Rattle.turns.specs.declared.Limits.{Limits}
 use Rattle.turns.specs.declared.Op.{Op}
 use Rattle.turns.specs.declared.Start.the-variants.{Lines}
+use Rattle.turns.specs.OpList.{opList}
 use Rattle.turns.specs.Marks.{overlay}
 use Rattle.turns.specs.Turn.{Stage, refused, going, bind, ask, State, Outcome}
+use Rattle.turns.proofs.OpListLaws.{op-list-length}
 use Rattle.turns.proofs.RunLaws.{bind-same}
 use Rattle.runs.proofs.MarkRuns.{marked-overlay}
 use Rattle.turns.specs.Runs.{markAll, markedRun, begin}
@@ -81,8 +83,8 @@ zeros-coeffs R cs cs′ e = ap (λ (l : List Float). coeffsOf [] ++ (replicate (
 -- ---- the run of a sum
 
 module _ (qubits : ℕ) (l : Limits) (keys : List ℕ) (weights : List Float) (k : ℕ) (ops : List Op) (ms : List Bool) (ws : List ℕ) (cs : List Float)
-    (w : ℕ) (wide : w ≡ widthOf qubits) {end : Ending} {ws′ : List ℕ} {cs′ : List Float}
-    (R : Ran w (isHeld w l keys weights (Lines k) (rowsIn w ws cs)) (startedRun w l keys weights (Lines k) ms ops (rowsIn w ws cs)) end ws ws′ cs cs′) where
+    (w : ℕ) (wide : w ≡ widthOf qubits) {end : Ending} {ws′ : List ℕ} {cs′ : List Float} {ix ix′ : List ℕ}
+    (R : Ran w (isHeld w l keys weights (Lines k) (rowsIn w ws cs)) (startedRun w l keys weights (Lines k) ms ops (rowsIn w ws cs)) end ws ws′ cs cs′ ix ix′) where
   task-long : length (taskIn qubits l keys weights k ops .lines) ≡ k
   task-long = length-tab k (lineAt (widthOf qubits) keys weights)
 
@@ -98,7 +100,7 @@ module _ (qubits : ℕ) (l : Limits) (keys : List ℕ) (weights : List Float) (k
   met : {b : Bool} → b ≡ meetsNine k end → meetsNine k (endingOf (startedRun w l keys weights (Lines k) ms ops (rowsIn w ws cs))) ≡ b
   met p = ap (meetsNine k) (sym (R .answer)) ∙ sym p
 
-  pub sum-stands : {b : Bool} → b ≡ meetsNine k end → b ≡ false → SumRan qubits l keys weights k ops ms end ws ws′ cs cs′
+  pub sum-stands : {b : Bool} → b ≡ meetsNine k end → b ≡ false → SumRan qubits l keys weights k ops ms end ws ws′ cs cs′ ix ix′
   sum-stands p f =
       let t : Task = taskIn qubits l keys weights k ops in
       let g : Bool = isGiven w (l .limit) keys weights (Lines k) in
@@ -106,8 +108,8 @@ module _ (qubits : ℕ) (l : Limits) (keys : List ℕ) (weights : List Float) (k
       let e : startedRun w l keys weights (Lines k) ms ops (rowsIn w ws cs) ≡ ask 2 g (ask 7 h (sumRun t ms)) =
       sym (asked-stands k t ms task-long g h (markedRun w l ms ops (startState w keys weights (Lines k))) (met p ∙ f)) ∙ ap (λ (s : Stage Outcome). ask 2 g (ask 7 h s)) sum-is in
       subst (λ (v : ℕ). Ran v (isHeld v l keys weights (Lines k) (rowsIn v ws cs))
-      (ask 2 (isGiven v (l .limit) keys weights (Lines k)) (ask 7 (leb (2 * l .limit) (rowsIn v ws cs)) (sumRun t ms))) end ws ws′ cs cs′) wide
-      (subst (λ (s : Stage Outcome). Ran w (g && h) s end ws ws′ cs cs′) e R)
+      (ask 2 (isGiven v (l .limit) keys weights (Lines k)) (ask 7 (leb (2 * l .limit) (rowsIn v ws cs)) (sumRun t ms))) end ws ws′ cs cs′ ix ix′) wide
+      (subst (λ (s : Stage Outcome). Ran w (g && h) s end ws ws′ cs cs′ ix ix′) e R)
 
   module _ {b : Bool} (p : b ≡ meetsNine k end) (f : b ≡ true) where
     parts : (isGiven w (l .limit) keys weights (Lines k) ≡ true) × (leb (2 * l .limit) (rowsIn w ws cs) ≡ true)
@@ -120,9 +122,9 @@ module _ (qubits : ℕ) (l : Limits) (keys : List ℕ) (weights : List Float) (k
     pub fold-ready : FoldReady w l keys weights k ws′ cs′
     fold-ready = (parts .0, subst⁻¹ (λ (x : ℕ). 2 * l .limit ≤ x) (held-rows w (R .rows held)) (leb-true (2 * l .limit) (rowsIn w ws cs) (parts .1)))
 
-    pub sum-folded : {r : Ending} {ws″ : List ℕ} {cs″ : List Float} → Folds w (folded (taskIn qubits l keys weights k ops) ms) r ws′ ws″ cs′ cs″
-        → SumRan qubits l keys weights k ops ms r ws ws″ cs cs″
-    sum-folded {r} {ws″} {cs″} F =
+    pub sum-folded : {r : Ending} {ws″ : List ℕ} {cs″ : List Float} {ix″ : List ℕ} → Folds w (folded (taskIn qubits l keys weights k ops) ms) r ws′ ws″ cs′ cs″ ix′ ix″
+        → SumRan qubits l keys weights k ops ms r ws ws″ cs cs″ ix ix″
+    sum-folded {r} {ws″} {cs″} {ix″} F =
         let t : Task = taskIn qubits l keys weights k ops in
         let g : Bool = isGiven w (l .limit) keys weights (Lines k) in
         let h : Bool = leb (2 * l .limit) (rowsIn w ws cs) in
@@ -133,15 +135,17 @@ module _ (qubits : ℕ) (l : Limits) (keys : List ℕ) (weights : List Float) (k
         let run : ask 2 g (ask 7 h (sumRun t ms)) ≡ folded t ms = (λ z. ask 2 (parts .0 z) (ask 7 (parts .1 z) (sumRun t ms))) ∙ sym sum-is ∙ parts .2 in
         let none : leftBy (ask 2 g (ask 7 h (sumRun t ms))) ≡ [] = ap leftBy run ∙ F .none in
         let first = emptied (R .rows held) in
+        let long : length ix′ ≡ length ix = ap length (R .index ∙ ap (λ (b : Bool). cond b (replicate (length ix) 0) ix) held) ∙ length-replicate (length ix) 0 in
         let second : Holds (2 * w) R₁ 0 [] ws′ ws″ cs′ cs″ = step-holds w R₁ R₁ 0 (F .rows) full (le-refl R₁) zero-le tt in
         let words : ws″ ≡ wordsWith w R₀ [] ws = F .rows .words ∙ ap (λ (b : Bool). cond b (wordsWith w R₁ [] ws′) ws′) full ∙ ap (λ (n : ℕ). wordsWith w n [] ws′) rows ∙ zeros-again w R₀ ws ws′ (first .words-kept) in
         let coeffs : cs″ ≡ coeffsWith R₀ [] cs = F .rows .coeffs ∙ ap (λ (b : Bool). cond b (coeffsWith R₁ [] cs′) cs′) full ∙ ap (λ (n : ℕ). coeffsWith n [] cs′) rows ∙ zeros-coeffs R₀ cs cs′ (first .coeffs-kept) in
         subst (λ (v : ℕ). Ran v (isHeld v l keys weights (Lines k) (rowsIn v ws cs))
-        (ask 2 (isGiven v (l .limit) keys weights (Lines k)) (ask 7 (leb (2 * l .limit) (rowsIn v ws cs)) (sumRun t ms))) r ws ws″ cs cs″) wide
+        (ask 2 (isGiven v (l .limit) keys weights (Lines k)) (ask 7 (leb (2 * l .limit) (rowsIn v ws cs)) (sumRun t ms))) r ws ws″ cs cs″ ix ix″) wide
         (record {
           answer = F .answer ∙ ap endingOf (sym run);
           words = words ∙ sym (ap (λ (b : Bool). cond b (wordsWith w R₀ [] ws) ws) held) ∙ ap (λ (ts : List Term). cond (g && h) (wordsWith w R₀ ts ws) ws) (sym none);
           coeffs = coeffs ∙ sym (ap (λ (b : Bool). cond b (coeffsWith R₀ [] cs) cs) held) ∙ ap (λ (ts : List Term). cond (g && h) (coeffsWith R₀ ts cs) cs) (sym none);
+          index = F .index ∙ ap (λ (m : ℕ). replicate m 0) long ∙ sym (ap (λ (b : Bool). cond b (replicate (length ix) 0) ix) held);
           rows = λ y. subst⁻¹ (λ (ts : List Term). Holds (2 * w) R₀ (length ts) ts ws ws″ cs cs″) none
               (hold-trans first (subst (λ (n : ℕ). Holds (2 * w) n 0 [] ws′ ws″ cs′ cs″) rows second));
         })
@@ -166,17 +170,17 @@ module _ (t : Task) (ms ns : List Bool) (same : (s : State) → markedRun (width
   sum-same = fold-same (markedRun (width t) (t .limits) ms (t .ops) (begin (startOf (width t) (t .lines)))) ∙ ap (orFold t ns) (same (begin (startOf (width t) (t .lines))))
 
 -- marks laid over others that are no fewer than the ops
-pub sum-marked : (qubits : ℕ) (l : Limits) (keys : List ℕ) (weights : List Float) (k : ℕ) (ops : List Op) (ms over : List Bool) {made : List Bool} {r : Ending} {ws ws′ : List ℕ} {cs cs′ : List Float}
-    → length ms ≡ length ops → length ops ≤ length over → made ≡ overlay ms over → SumRan qubits l keys weights k ops made r ws ws′ cs cs′ → SumRan qubits l keys weights k ops ms r ws ws′ cs cs′
-sum-marked qubits l keys weights k ops ms over {made} {r} {ws} {ws′} {cs} {cs′} e h m R =
+pub sum-marked : (qubits : ℕ) (l : Limits) (keys : List ℕ) (weights : List Float) (k : ℕ) (ops : List Op) (ms over : List Bool) {made : List Bool} {r : Ending} {ws ws′ : List ℕ} {cs cs′ : List Float} {ix ix′ : List ℕ}
+    → length ms ≡ length ops → length ops ≤ length over → made ≡ overlay ms over → SumRan qubits l keys weights k ops made r ws ws′ cs cs′ ix ix′ → SumRan qubits l keys weights k ops ms r ws ws′ cs cs′ ix ix′
+sum-marked qubits l keys weights k ops ms over {made} {r} {ws} {ws′} {cs} {cs′} {ix} {ix′} e h m R =
     let t : Task = taskIn qubits l keys weights k ops in
     let w : ℕ = widthOf qubits in
     subst (λ (s : Stage Outcome). Ran w (isHeld w l keys weights (Lines k) (rowsIn w ws cs))
-    (ask 2 (isGiven w (l .limit) keys weights (Lines k)) (ask 7 (leb (2 * l .limit) (rowsIn w ws cs)) s)) r ws ws′ cs cs′)
+    (ask 2 (isGiven w (l .limit) keys weights (Lines k)) (ask 7 (leb (2 * l .limit) (rowsIn w ws cs)) s)) r ws ws′ cs cs′ ix ix′)
     (ap (sumRun t) m ∙ sum-same t (overlay ms over) ms (λ s. marked-overlay w l ms over ops s e h)) R
 
 pub all-long : (ops : List Op) → length (markAll ops) ≡ length ops
 all-long ops = length-map ops (λ op. true)
 
-pub few-ops : (n : ℕ) (ops : List Op) (over : List Bool) → length ops ≡ 4096 → length over ≡ 4096 → length (take n ops) ≤ length over
-few-ops n ops over e f = omega (arith, length-take n ops, e, f)
+pub few-ops : (n : ℕ) (codes : List ℕ) (reals : List Float) → length (opList n codes reals) ≤ length (replicate 4096 false)
+few-ops n codes reals = omega (arith, op-list-length n codes reals, length-replicate 4096 false)

@@ -44,13 +44,14 @@ abbrev pub meansOf : ℕ → Stage Outcome → List Float
 meansOf qubits (refused n) = replicate qubits zero64
 meansOf qubits (going o) = o .means
 
--- answer and all lent memory. "1 to 7 leave rows and mean places untouched"; "after `all` .. every row is zero"; "No other mean place is ever
--- touched."
-pub record AllRan (qubits : ℕ) (held : Bool) (run : Stage Outcome) (r : Ending) (ws ws′ : List ℕ) (cs cs′ ms ms′ : List Float) : Type 0 where
+-- answer and all lent memory. "1 to 7 leave rows and mean places untouched"; "after `all` .. every row is zero", and so is the index; "No other
+-- mean place is ever touched."
+pub record AllRan (qubits : ℕ) (held : Bool) (run : Stage Outcome) (r : Ending) (ws ws′ : List ℕ) (cs cs′ ms ms′ : List Float) (ix ix′ : List ℕ) : Type 0 where
   pub answer : r ≡ endingOf run
   pub words : ws′ ≡ cond held (wordsWith (widthOf qubits) (rowsIn (widthOf qubits) ws cs) [] ws) ws
   pub coeffs : cs′ ≡ cond held (coeffsWith (rowsIn (widthOf qubits) ws cs) [] cs) cs
   pub means : ms′ ≡ cond held (meansOf qubits run ++ drop qubits ms) ms
+  pub index : ix′ ≡ cond held (replicate (length ix) 0) ix
 
 -- ---- words of the private contracts
 
@@ -105,9 +106,10 @@ abbrev pub clearedMeans : ℕ → Ending → List Float → List Float
 clearedMeans n (Failed e) ms = filled zero64 0 n ms
 clearedMeans n (Done m k t) ms = ms
 
--- all runs done, the rows cleared, and after a refusal the means
-pub record AllLeaves (w n : ℕ) (r : Ending) (ws ws′ : List ℕ) (cs cs′ ms ms′ : List Float) (run : Stage Outcome) : Type 0 where
+-- all runs done, the rows and the index cleared, and after a refusal the means
+pub record AllLeaves (w n : ℕ) (r : Ending) (ws ws′ : List ℕ) (cs cs′ ms ms′ : List Float) (ix ix′ : List ℕ) (run : Stage Outcome) : Type 0 where
   pub answer : r ≡ endingOf run
   pub words : ws′ ≡ wordsWith w (rowsIn w ws cs) [] ws
   pub coeffs : cs′ ≡ coeffsWith (rowsIn w ws cs) [] cs
   pub means : ms′ ≡ meansOf n run ++ drop n ms
+  pub index : ix′ ≡ replicate (length ix) 0

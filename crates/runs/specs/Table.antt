@@ -4,7 +4,7 @@ use Prim.Native.Nat.{ℕ, _*_, _≤_, max}
 use mathlib.Core.Bool.{Bool, true, false, _&&_}
 use mathlib.Core.List.{List, []}
 use lib.Dec.{leb, ltb, eqb}
-use lib.ListN.{getD}
+use lib.ListN.{length, getD, replicate}
 use lib.Ieee.{Float, nan, binary64, add, mul}
 use Rattle.numbers.specs.Tests.{absOf}
 use Rattle.words.specs.Keys.{widthOf}
@@ -39,15 +39,15 @@ sumAsked qubits l keys weights k ops ms rows =
     ask 2 (isGiven (widthOf qubits) (l .limit) keys weights (Lines k)) (ask 7 (leb (2 * l .limit) rows) (sumRun (taskIn qubits l keys weights k ops) ms))
 
 -- its answer and all lent memory
-abbrev pub SumRan : ℕ → Limits → List ℕ → List Float → ℕ → List Op → List Bool → Ending → List ℕ → List ℕ → List Float → List Float → Type 0
-SumRan qubits l keys weights k ops ms r ws ws′ cs cs′ =
+abbrev pub SumRan : ℕ → Limits → List ℕ → List Float → ℕ → List Op → List Bool → Ending → List ℕ → List ℕ → List Float → List Float → List ℕ → List ℕ → Type 0
+SumRan qubits l keys weights k ops ms r ws ws′ cs cs′ ix ix′ =
     Ran (widthOf qubits) (isHeld (widthOf qubits) l keys weights (Lines k) (rowsIn (widthOf qubits) ws cs))
-    (sumAsked qubits l keys weights k ops ms (rowsIn (widthOf qubits) ws cs)) r ws ws′ cs cs′
+    (sumAsked qubits l keys weights k ops ms (rowsIn (widthOf qubits) ws cs)) r ws ws′ cs cs′ ix ix′
 
 -- `cone`, as it is marked by a set of 256 qubits; and, for a task that the questions pass as `cone`, by the document's set
-pub record ConeRan (qubits : ℕ) (l : Limits) (keys : List ℕ) (weights : List Float) (k : ℕ) (ops : List Op) (r : Ending) (ws ws′ : List ℕ) (cs cs′ : List Float) : Type 0 where
-  pub always : SumRan qubits l keys weights k ops (coneMarks (lettersIn (widthOf qubits) keys) ops) r ws ws′ cs cs′
-  pub cone : let t = taskIn qubits l keys weights k ops in passes Cone t ≡ true → SumRan qubits l keys weights k ops (markCone (observed t) ops) r ws ws′ cs cs′
+pub record ConeRan (qubits : ℕ) (l : Limits) (keys : List ℕ) (weights : List Float) (k : ℕ) (ops : List Op) (r : Ending) (ws ws′ : List ℕ) (cs cs′ : List Float) (ix ix′ : List ℕ) : Type 0 where
+  pub always : SumRan qubits l keys weights k ops (coneMarks (lettersIn (widthOf qubits) keys) ops) r ws ws′ cs cs′ ix ix′
+  pub cone : let t = taskIn qubits l keys weights k ops in passes Cone t ≡ true → SumRan qubits l keys weights k ops (markCone (observed t) ops) r ws ws′ cs cs′ ix ix′
 
 -- ---- the fold
 
@@ -76,8 +76,9 @@ pub record Totals (w : ℕ) (s : Stage Outcome) (r : Folded) (ws₀ ws : List �
   pub totals : heldIn r ≡ s
   pub rows : Holds (2 * w) (rowsIn w ws₀ cs₀) 0 [] ws₀ ws cs₀ cs
 
--- answer and memory after a fold, in rows for twice limit: every row is zero
-pub record Folds (w : ℕ) (s : Stage Outcome) (r : Ending) (ws ws′ : List ℕ) (cs cs′ : List Float) : Type 0 where
+-- answer and memory after a fold, in rows for twice limit: every row is zero, and the index
+pub record Folds (w : ℕ) (s : Stage Outcome) (r : Ending) (ws ws′ : List ℕ) (cs cs′ : List Float) (ix ix′ : List ℕ) : Type 0 where
   pub answer : r ≡ endingOf s
   pub none : leftBy s ≡ []
   pub rows : Stepped w (rowsIn w ws cs) (rowsIn w ws cs) 0 [] 0 ws ws′ cs cs′
+  pub index : ix′ ≡ replicate (length ix) 0

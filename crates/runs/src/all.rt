@@ -3,12 +3,13 @@ ghost use mathlib.Core.Path.{_≡_};
 ghost use mathlib.Core.Bool.{_&&_};
 ghost use mathlib.Core.List.{[]};
 ghost use Prim.Native.Nat.{_+_, _*_, _≤_, _<_};
-ghost use lib.ListN.{length, take};
+ghost use lib.ListN.{length};
 ghost use Rattle.numbers.specs.Constants.{zero64};
 ghost use Rattle.words.specs.Keys.{widthOf};
 ghost use Rattle.rows.specs.Rows.{rowsIn};
 ghost use Rattle.rows.specs.Cleared.{filled};
 ghost use Rattle.turns.specs.Turn.{bind, going, outcome};
+ghost use Rattle.turns.specs.OpList.{opList};
 ghost use Rattle.turns.specs.Runs.{markedRun};
 ghost use Rattle.turns.specs.Told.{endingOf};
 ghost use Rattle.runs.specs.Outcome.{nothingYet, zState, zStep};
@@ -18,7 +19,6 @@ use rows::clear::clear_rows;
 use rows::row;
 use turns::Ending;
 use turns::Limits;
-use turns::Op;
 use turns::Start;
 use turns::Tally;
 use turns::marks;
@@ -46,19 +46,21 @@ fn refusal(qubits: usize, limits: Limits, rows: usize, places: usize) -> u8
 
 // The run from Z at qubit q.
 fn run_z(
-    ops: [Op; 4096],
+    codes: &[usize],
+    reals: &[f64],
     n: usize,
     marks: &[bool],
     limits: Limits,
     words: &mut [u64],
     coeffs: &mut [f64],
+    index: &mut [u32],
     w: usize,
     q: usize,
     tally: Tally,
 ) -> Ending
     requires { ⌜ (1 ≤ limits .limit) × (w ≤ 4) × (q < 64 * w) × (2 * limits .limit ≤ rowsIn w (now words) (now coeffs)) ⌝ }
     ensures { λ r. ⌜ Answers w r (now (words .entry)) (now (words .exit)) (now (coeffs .entry)) (now (coeffs .exit))
-        (markedRun w limits (now (marks .entry)) (take n ops) (zState w q (outcome [] zero64 [] (tally .peak) (tally .discarded)))) ⌝ }
+        (markedRun w limits (now (marks .entry)) (opList n (now (codes .entry)) (now (reals .entry))) (zState w q (outcome [] zero64 [] (tally .peak) (tally .discarded)))) ⌝ }
 {
     let keys = [0u64; 1];
     let weights = [0.0; 1];
@@ -66,12 +68,14 @@ fn run_z(
         Start::Z(q, tally),
         &keys,
         &weights,
-        ops,
+        codes,
+        reals,
         n,
         marks,
         limits,
         words,
         coeffs,
+        index,
         w,
     )
 }
@@ -92,12 +96,14 @@ fn add_mean(means: &mut [f64], q: usize, end: Ending) -> Ending
 
 // One qubit's turn, which is skipped after a refusal.
 fn all_step(
-    ops: [Op; 4096],
+    codes: &[usize],
+    reals: &[f64],
     n: usize,
     marks: &[bool],
     limits: Limits,
     words: &mut [u64],
     coeffs: &mut [f64],
+    index: &mut [u32],
     w: usize,
     means: &mut [f64],
     q: usize,
@@ -105,12 +111,24 @@ fn all_step(
 ) -> Ending
     requires { ⌜ AllReady w (q + 1) limits (now words) (now coeffs) (now means) ⌝ }
     ensures { λ r. ⌜ AllTold w (q + 1) r (now (words .entry)) (now (words .exit)) (now (coeffs .entry)) (now (coeffs .exit)) (now (means .entry)) (now (means .exit))
-        (bind (allIn q at (now (means .entry))) (zStep w limits (now (marks .entry)) (take n ops) q)) ⌝ }
+        (bind (allIn q at (now (means .entry))) (zStep w limits (now (marks .entry)) (opList n (now (codes .entry)) (now (reals .entry))) q)) ⌝ }
 {
     match at {
         Ending::Failed(e) => Ending::Failed(e),
         Ending::Done(_, _, tally) => {
-            let end = run_z(ops, n, marks, limits, words, coeffs, w, q, tally);
+            let end = run_z(
+                codes,
+                reals,
+                n,
+                marks,
+                limits,
+                words,
+                coeffs,
+                index,
+                w,
+                q,
+                tally,
+            );
             add_mean(means, q, end)
         }
     }
@@ -132,24 +150,39 @@ fn nothing_yet() -> Ending
 
 // The runs of all qubits, in order, with one tally.
 fn all_rows(
-    ops: [Op; 4096],
+    codes: &[usize],
+    reals: &[f64],
     n: usize,
     marks: &[bool],
     limits: Limits,
     words: &mut [u64],
     coeffs: &mut [f64],
+    index: &mut [u32],
     w: usize,
     means: &mut [f64],
     qubits: usize,
 ) -> Ending
     requires { ⌜ AllReady w qubits limits (now words) (now coeffs) (now means) ⌝ }
     ensures { λ r. ⌜ AllTold w qubits r (now (words .entry)) (now (words .exit)) (now (coeffs .entry)) (now (coeffs .exit)) (now (means .entry)) (now (means .exit))
-        (allTo w limits (now (marks .entry)) (take n ops) qubits) ⌝ }
+        (allTo w limits (now (marks .entry)) (opList n (now (codes .entry)) (now (reals .entry))) qubits) ⌝ }
 {
     let mut at = nothing_yet();
     let mut q = 0;
     while q < qubits {
-        at = all_step(ops, n, marks, limits, words, coeffs, w, means, q, at);
+        at = all_step(
+            codes,
+            reals,
+            n,
+            marks,
+            limits,
+            words,
+            coeffs,
+            index,
+            w,
+            means,
+            q,
+            at,
+        );
         q += 1;
     }
     at
@@ -178,44 +211,62 @@ fn clear_refused(means: &mut [f64], n: usize, at: Ending)
     }
 }
 
-// The runs of all qubits; then every row is set to zero, and after a refusal the mean of every qubit.
+// The runs of all qubits; then every row and the index are set to zero, and after a refusal the mean of every qubit.
 fn all_marked(
-    ops: [Op; 4096],
+    codes: &[usize],
+    reals: &[f64],
     n: usize,
     marks: &[bool],
     limits: Limits,
     words: &mut [u64],
     coeffs: &mut [f64],
+    index: &mut [u32],
     w: usize,
     rows: usize,
     means: &mut [f64],
     qubits: usize,
 ) -> Ending
     requires { ⌜ AllReady w qubits limits (now words) (now coeffs) (now means) × (rows ≡ rowsIn w (now words) (now coeffs)) ⌝ }
-    ensures { λ r. ⌜ AllLeaves w qubits r (now (words .entry)) (now (words .exit)) (now (coeffs .entry)) (now (coeffs .exit)) (now (means .entry)) (now (means .exit))
-        (allTo w limits (now (marks .entry)) (take n ops) qubits) ⌝ }
+    ensures { λ r. ⌜ AllLeaves w qubits r (now (words .entry)) (now (words .exit)) (now (coeffs .entry)) (now (coeffs .exit)) (now (means .entry)) (now (means .exit)) (now (index .entry)) (now (index .exit))
+        (allTo w limits (now (marks .entry)) (opList n (now (codes .entry)) (now (reals .entry))) qubits) ⌝ }
 {
-    let at = all_rows(ops, n, marks, limits, words, coeffs, w, means, qubits);
+    let at = all_rows(
+        codes,
+        reals,
+        n,
+        marks,
+        limits,
+        words,
+        coeffs,
+        index,
+        w,
+        means,
+        qubits,
+    );
     clear_rows(words, coeffs, w, 0, rows);
+    branches::chains::clear(index);
     clear_refused(means, qubits, at);
     at
 }
 
 // One mean for each qubit, in the first mean places: qubit after qubit, the run of the first n ops from Z at that qubit alone, with one
 // running discarded weight and the greatest peak. A limit of 0 or more than 256 qubits is refused with 2, too few rows or mean places with
-// 7; then nothing changes. Else every row is zero at the end, and if 8 or 9 refuses a qubit's run, so is the mean of every qubit.
+// 7; then nothing changes. Else every row and the index are zero at the end, and if 8 or 9 refuses a qubit's run, so is the mean of every
+// qubit.
 pub fn run_spd_lowered(
     qubits: usize,
-    ops: [Op; 4096],
+    codes: &[usize],
+    reals: &[f64],
     n: usize,
     limits: Limits,
     words: &mut [u64],
     coeffs: &mut [f64],
+    index: &mut [u32],
     means: &mut [f64],
 ) -> Ending
     ensures { λ r. ⌜ AllRan qubits (allHeld qubits limits (rowsIn (widthOf qubits) (now (words .entry)) (now (coeffs .entry))) (length (now (means .entry))))
-        (allAsked qubits limits (take n ops) (rowsIn (widthOf qubits) (now (words .entry)) (now (coeffs .entry))) (length (now (means .entry))))
-        r (now (words .entry)) (now (words .exit)) (now (coeffs .entry)) (now (coeffs .exit)) (now (means .entry)) (now (means .exit)) ⌝ }
+        (allAsked qubits limits (opList n (now (codes .entry)) (now (reals .entry))) (rowsIn (widthOf qubits) (now (words .entry)) (now (coeffs .entry))) (length (now (means .entry))))
+        r (now (words .entry)) (now (words .exit)) (now (coeffs .entry)) (now (coeffs .exit)) (now (means .entry)) (now (means .exit)) (now (index .entry)) (now (index .exit)) ⌝ }
 {
     let w = width::width(qubits);
     let rows = row::rows_in(words.len(), coeffs.len(), w);
@@ -224,14 +275,16 @@ pub fn run_spd_lowered(
         return Ending::Failed(number);
     }
     let mut marks = [false; 4096];
-    marks::full_marks(ops, n, &mut marks);
+    marks::full_marks(codes, reals, n, &mut marks);
     all_marked(
-        ops,
+        codes,
+        reals,
         n,
         &marks,
         limits,
         words,
         coeffs,
+        index,
         w,
         rows,
         means,

@@ -1,11 +1,12 @@
 // The fold: each line of a sum alone at weight 1, and the totals.
 ghost use mathlib.Core.Path.{_≡_};
-ghost use Prim.Native.Nat.{_*_, _<_};
-ghost use lib.ListN.{take, getD};
+ghost use Prim.Native.Nat.{_+_, _*_};
+ghost use lib.ListN.{getD};
 ghost use lib.Ieee.{nan};
 ghost use Rattle.words.specs.Keys.{widthOf};
 ghost use Rattle.terms.specs.Lists.{tab};
 ghost use Rattle.turns.specs.Turn.{bind};
+ghost use Rattle.turns.specs.OpList.{opList};
 ghost use Rattle.turns.specs.Told.{endingOf};
 ghost use Rattle.runs.specs.Outcome.{nothingYet, addNext, foldLines, folded, askTotals};
 ghost use Rattle.runs.specs.Table.{lineAt, taskIn, heldIn, added, FoldReady, Totals, Folds};
@@ -13,7 +14,6 @@ use rows::clear::clear_rows;
 use rows::row;
 use turns::Ending;
 use turns::Limits;
-use turns::Op;
 use turns::Start;
 use turns::Tally;
 use turns::peaks::larger;
@@ -58,37 +58,37 @@ fn fold_line(
     w: usize,
     keys: &[u64],
     weights: &[f64],
-    lines: usize,
-    ops: [Op; 4096],
+    codes: &[usize],
+    reals: &[f64],
     n: usize,
     marks: &[bool],
     limits: Limits,
     words: &mut [u64],
     coeffs: &mut [f64],
+    index: &mut [u32],
 ) -> Folded
-    requires { ⌜ (w ≡ widthOf qubits) × (i < lines) × FoldReady w limits (now keys) (now weights) lines (now words) (now coeffs) ⌝ }
-    ensures { λ r. ⌜ Totals w (bind (heldIn at) (addNext (taskIn qubits limits (now (keys .entry)) (now (weights .entry)) lines (take n ops)) (now (marks .entry)) (lineAt w (now (keys .entry)) (now (weights .entry)) i)))
+    requires { ⌜ (w ≡ widthOf qubits) × FoldReady w limits (now keys) (now weights) (i + 1) (now words) (now coeffs) ⌝ }
+    ensures { λ r. ⌜ Totals w (bind (heldIn at) (addNext (taskIn qubits limits (now (keys .entry)) (now (weights .entry)) (i + 1) (opList n (now (codes .entry)) (now (reals .entry)))) (now (marks .entry)) (lineAt w (now (keys .entry)) (now (weights .entry)) i)))
         r (now (words .entry)) (now (words .exit)) (now (coeffs .entry)) (now (coeffs .exit)) ⌝ }
 {
-    match at {
-        Folded::Ended(q) => Folded::Ended(q),
-        Folded::Held(mean, tally) => {
-            let weight = weight_at(weights, i);
-            let end = run_marked(
-                Start::Alone(i),
-                keys,
-                weights,
-                ops,
-                n,
-                marks,
-                limits,
-                words,
-                coeffs,
-                w,
-            );
-            add_line(mean, tally, weight, end)
-        }
-    }
+    let Folded::Held(mean, tally) = at else {
+        return at;
+    };
+    let end = run_marked(
+        Start::Alone(i),
+        keys,
+        weights,
+        codes,
+        reals,
+        n,
+        marks,
+        limits,
+        words,
+        coeffs,
+        index,
+        w,
+    );
+    add_line(mean, tally, weight_at(weights, i), end)
 }
 
 // All lines, in order.
@@ -98,15 +98,17 @@ fn fold_lines(
     keys: &[u64],
     weights: &[f64],
     lines: usize,
-    ops: [Op; 4096],
+    codes: &[usize],
+    reals: &[f64],
     n: usize,
     marks: &[bool],
     limits: Limits,
     words: &mut [u64],
     coeffs: &mut [f64],
+    index: &mut [u32],
 ) -> Folded
     requires { ⌜ (w ≡ widthOf qubits) × FoldReady w limits (now keys) (now weights) lines (now words) (now coeffs) ⌝ }
-    ensures { λ r. ⌜ Totals w (foldLines (taskIn qubits limits (now (keys .entry)) (now (weights .entry)) lines (take n ops)) (now (marks .entry)) (tab lines (lineAt w (now (keys .entry)) (now (weights .entry)))) nothingYet)
+    ensures { λ r. ⌜ Totals w (foldLines (taskIn qubits limits (now (keys .entry)) (now (weights .entry)) lines (opList n (now (codes .entry)) (now (reals .entry)))) (now (marks .entry)) (tab lines (lineAt w (now (keys .entry)) (now (weights .entry)))) nothingYet)
         r (now (words .entry)) (now (words .exit)) (now (coeffs .entry)) (now (coeffs .exit)) ⌝ }
 {
     let mut at = Folded::Held(
@@ -125,13 +127,14 @@ fn fold_lines(
             w,
             keys,
             weights,
-            lines,
-            ops,
+            codes,
+            reals,
             n,
             marks,
             limits,
             words,
             coeffs,
+            index,
         );
         i += 1;
     }
@@ -156,23 +159,25 @@ fn ended(at: Folded) -> Ending
     }
 }
 
-// The fold of all lines; every row is zero after it.
+// The fold of all lines; every row is zero after it, and the index.
 pub(crate) fn fold(
     qubits: usize,
     w: usize,
     keys: &[u64],
     weights: &[f64],
     lines: usize,
-    ops: [Op; 4096],
+    codes: &[usize],
+    reals: &[f64],
     n: usize,
     marks: &[bool],
     limits: Limits,
     words: &mut [u64],
     coeffs: &mut [f64],
+    index: &mut [u32],
 ) -> Ending
     requires { ⌜ (w ≡ widthOf qubits) × FoldReady w limits (now keys) (now weights) lines (now words) (now coeffs) ⌝ }
-    ensures { λ r. ⌜ Folds w (folded (taskIn qubits limits (now (keys .entry)) (now (weights .entry)) lines (take n ops)) (now (marks .entry)))
-        r (now (words .entry)) (now (words .exit)) (now (coeffs .entry)) (now (coeffs .exit)) ⌝ }
+    ensures { λ r. ⌜ Folds w (folded (taskIn qubits limits (now (keys .entry)) (now (weights .entry)) lines (opList n (now (codes .entry)) (now (reals .entry)))) (now (marks .entry)))
+        r (now (words .entry)) (now (words .exit)) (now (coeffs .entry)) (now (coeffs .exit)) (now (index .entry)) (now (index .exit)) ⌝ }
 {
     let at = fold_lines(
         qubits,
@@ -180,14 +185,17 @@ pub(crate) fn fold(
         keys,
         weights,
         lines,
-        ops,
+        codes,
+        reals,
         n,
         marks,
         limits,
         words,
         coeffs,
+        index,
     );
     let rows = row::rows_in(words.len(), coeffs.len(), w);
     clear_rows(words, coeffs, w, 0, rows);
+    branches::chains::clear(index);
     ended(at)
 }

@@ -1,13 +1,12 @@
 // A run of the sum of the lines, under marks: the sum, or the fold.
 ghost use mathlib.Core.Path.{_≡_};
-ghost use lib.ListN.{take};
+ghost use Rattle.turns.specs.OpList.{opList};
 ghost use Rattle.turns.specs.Runs.{markAll, markPath};
 ghost use Rattle.runs.specs.Table.{meetsNine, SumRan, ConeRan};
 use crate::fold;
 use crate::width::width;
 use turns::Ending;
 use turns::Limits;
-use turns::Op;
 use turns::Start;
 use turns::marks::full_marks;
 use turns::marks::inverse_light_cone;
@@ -30,27 +29,31 @@ pub fn run_sum(
     keys: &[u64],
     weights: &[f64],
     lines: usize,
-    ops: [Op; 4096],
+    codes: &[usize],
+    reals: &[f64],
     n: usize,
     marks: &[bool],
     limits: Limits,
     words: &mut [u64],
     coeffs: &mut [f64],
+    index: &mut [u32],
 ) -> Ending
-    ensures { λ r. ⌜ SumRan qubits limits (now (keys .entry)) (now (weights .entry)) lines (take n ops) (now (marks .entry)) r
-        (now (words .entry)) (now (words .exit)) (now (coeffs .entry)) (now (coeffs .exit)) ⌝ }
+    ensures { λ r. ⌜ SumRan qubits limits (now (keys .entry)) (now (weights .entry)) lines (opList n (now (codes .entry)) (now (reals .entry))) (now (marks .entry)) r
+        (now (words .entry)) (now (words .exit)) (now (coeffs .entry)) (now (coeffs .exit)) (now (index .entry)) (now (index .exit)) ⌝ }
 {
     let w = width(qubits);
     let end = run_marked(
         Start::Lines(lines),
         keys,
         weights,
-        ops,
+        codes,
+        reals,
         n,
         marks,
         limits,
         words,
         coeffs,
+        index,
         w,
     );
     if meets_nine(lines, end) {
@@ -60,12 +63,14 @@ pub fn run_sum(
             keys,
             weights,
             lines,
-            ops,
+            codes,
+            reals,
             n,
             marks,
             limits,
             words,
             coeffs,
+            index,
         );
     }
     end
@@ -77,28 +82,32 @@ pub fn run_spd_weighted_observable_with(
     keys: &[u64],
     weights: &[f64],
     lines: usize,
-    ops: [Op; 4096],
+    codes: &[usize],
+    reals: &[f64],
     n: usize,
     limits: Limits,
     words: &mut [u64],
     coeffs: &mut [f64],
+    index: &mut [u32],
 ) -> Ending
-    ensures { λ r. ⌜ SumRan qubits limits (now (keys .entry)) (now (weights .entry)) lines (take n ops) (markAll (take n ops)) r
-        (now (words .entry)) (now (words .exit)) (now (coeffs .entry)) (now (coeffs .exit)) ⌝ }
+    ensures { λ r. ⌜ SumRan qubits limits (now (keys .entry)) (now (weights .entry)) lines (opList n (now (codes .entry)) (now (reals .entry))) (markAll (opList n (now (codes .entry)) (now (reals .entry)))) r
+        (now (words .entry)) (now (words .exit)) (now (coeffs .entry)) (now (coeffs .exit)) (now (index .entry)) (now (index .exit)) ⌝ }
 {
     let mut marks = [false; 4096];
-    full_marks(ops, n, &mut marks);
+    full_marks(codes, reals, n, &mut marks);
     run_sum(
         qubits,
         keys,
         weights,
         lines,
-        ops,
+        codes,
+        reals,
         n,
         &marks,
         limits,
         words,
         coeffs,
+        index,
     )
 }
 
@@ -108,28 +117,32 @@ pub fn run_spd_observable_light_cone(
     keys: &[u64],
     weights: &[f64],
     lines: usize,
-    ops: [Op; 4096],
+    codes: &[usize],
+    reals: &[f64],
     n: usize,
     limits: Limits,
     words: &mut [u64],
     coeffs: &mut [f64],
+    index: &mut [u32],
 ) -> Ending
-    ensures { λ r. ⌜ ConeRan qubits limits (now (keys .entry)) (now (weights .entry)) lines (take n ops) r
-        (now (words .entry)) (now (words .exit)) (now (coeffs .entry)) (now (coeffs .exit)) ⌝ }
+    ensures { λ r. ⌜ ConeRan qubits limits (now (keys .entry)) (now (weights .entry)) lines (opList n (now (codes .entry)) (now (reals .entry))) r
+        (now (words .entry)) (now (words .exit)) (now (coeffs .entry)) (now (coeffs .exit)) (now (index .entry)) (now (index .exit)) ⌝ }
 {
     let mut marks = [false; 4096];
-    inverse_light_cone(ops, n, width(qubits), keys, &mut marks);
+    inverse_light_cone(codes, reals, n, width(qubits), keys, &mut marks);
     run_sum(
         qubits,
         keys,
         weights,
         lines,
-        ops,
+        codes,
+        reals,
         n,
         &marks,
         limits,
         words,
         coeffs,
+        index,
     )
 }
 
@@ -139,27 +152,31 @@ pub fn run_pauli_path_weighted_observable(
     keys: &[u64],
     weights: &[f64],
     lines: usize,
-    ops: [Op; 4096],
+    codes: &[usize],
+    reals: &[f64],
     n: usize,
     limits: Limits,
     words: &mut [u64],
     coeffs: &mut [f64],
+    index: &mut [u32],
 ) -> Ending
-    ensures { λ r. ⌜ SumRan qubits limits (now (keys .entry)) (now (weights .entry)) lines (take n ops) (markPath (take n ops)) r
-        (now (words .entry)) (now (words .exit)) (now (coeffs .entry)) (now (coeffs .exit)) ⌝ }
+    ensures { λ r. ⌜ SumRan qubits limits (now (keys .entry)) (now (weights .entry)) lines (opList n (now (codes .entry)) (now (reals .entry))) (markPath (opList n (now (codes .entry)) (now (reals .entry)))) r
+        (now (words .entry)) (now (words .exit)) (now (coeffs .entry)) (now (coeffs .exit)) (now (index .entry)) (now (index .exit)) ⌝ }
 {
     let mut marks = [false; 4096];
-    path_marks(ops, n, &mut marks);
+    path_marks(codes, reals, n, &mut marks);
     run_sum(
         qubits,
         keys,
         weights,
         lines,
-        ops,
+        codes,
+        reals,
         n,
         &marks,
         limits,
         words,
         coeffs,
+        index,
     )
 }

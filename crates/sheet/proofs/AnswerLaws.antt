@@ -5,7 +5,7 @@ use native.Mathlib.Omega.{arith}
 use mathlib.Core.Bool.{Bool, true, false, cond, _&&_}
 use mathlib.Core.List.{List, map}
 use lib.Dec.{leb, eqb}
-use lib.ListN.{length, take, replicate, length-replicate}
+use lib.ListN.{length, replicate}
 use lib.Ieee.{Float}
 use borrow.Author.Tests.{eqb-true, le-leb, leb-true}
 use Rattle.words.specs.Keys.{widthOf}
@@ -23,18 +23,21 @@ use Rattle.runs.specs.Table.{lineAt}
 use Rattle.lines.specs.TermLines.{wordLine}
 use Rattle.layout.specs.declared.Head.{Head}
 use Rattle.layout.specs.Layout.{headOf, question1, termLines, opList}
-use Rattle.layout.specs.Loaded.{loadedOps, LinesLoaded}
-use Rattle.layout.proofs.LoadLaws.{ops-loaded, lines-loaded, lines-keys-long, lines-weights-long}
+use Rattle.layout.specs.Loaded.{OpsLoaded, LinesLoaded}
+use Rattle.layout.proofs.LoadLaws.{rows-hold, ops-loaded, lines-loaded, lines-keys-long, lines-weights-long}
 use Rattle.replies.specs.declared.Reply.{Reply}
 use Rattle.sheet.specs.declared.Asked.the-variants.{Two}
 use Rattle.sheet.specs.declared.Verdict.{Verdict}
 use Rattle.sheet.specs.declared.Verdict.the-variants.{RefusedAt, Passed}
 use Rattle.sheet.specs.Questions.{question2, lineOf, refusedOr, verdict}
 use Rattle.sheet.specs.Answer.{limitsOf, refusal, taskOf, runOf, replyTo, replyOf, LeavesBy, Leaves, Answered}
-use Rattle.sheet.specs.Asking.{Sound, earlyVerdict, laterVerdict}
-use Rattle.sheet.specs.Running.{replyEnd, tableTask, tableRun, Runnable, Ended, Cleared, Replied}
-use Rattle.sheet.proofs.PassLaws.{answers-of, yes-of, passed-passes}
+use Rattle.sheet.specs.Asking.{tableOps, Sound, earlyVerdict, laterVerdict}
+use Rattle.sheet.specs.Running.{OpsRoom, LinesRoom, replyEnd, tableTask, tableRun, Runnable, Ended, Cleared, Replied}
+use Rattle.sheet.proofs.PassLaws.{Yes, answers-of, yes-of, passed-passes}
 use Rattle.sheet.proofs.OutcomeLaws.{reply-of-end}
+
+clash : {n k : ℕ} → RefusedAt n k ≡ Passed → ⊥
+clash q = let z : _≡_ {A = ℕ} 0 1 = cc in omega arith
 
 -- ---- questions 1 and 2, and then the others
 module _ (a b : ℕ) where
@@ -44,9 +47,6 @@ module _ (a b : ℕ) where
   split-on : (v : Verdict) → two-of Passed ≡ Passed → (a ≡ 0) × (b ≡ 0)
   split-on v e = go (eqb a 0) refl (eqb b 0) refl e
     where
-      clash : {n k : ℕ} → RefusedAt n k ≡ Passed → ⊥
-      clash q = let z : _≡_ {A = ℕ} 0 1 = cc in omega arith
-
       go : (x : Bool) → eqb a 0 ≡ x → (y : Bool) → eqb b 0 ≡ y → cond x (cond y Passed (RefusedAt 2 b)) (RefusedAt 1 a) ≡ Passed → (a ≡ 0) × (b ≡ 0)
       go true p true q h = (eqb-true a 0 p, eqb-true b 0 q)
       go true p false q h = absurd (clash h)
@@ -65,18 +65,16 @@ pub early-refused : (h : Head) (ls : List (List ℕ)) (rows places n k : ℕ) �
 unfolding verdict
 early-refused h ls rows places n k e = go (eqb (question1 h ls) 0) (eqb (lineOf Two h ls) 0) e
   where
-    clash : Passed ≡ RefusedAt n k → ⊥
-    clash q = let z : _≡_ {A = ℕ} 0 1 = cc in omega arith
-
     go : (x y : Bool) → cond x (cond y Passed (RefusedAt 2 (lineOf Two h ls))) (RefusedAt 1 (question1 h ls)) ≡ RefusedAt n k
         → cond x (cond y (laterVerdict h ls rows places) (RefusedAt 2 (lineOf Two h ls))) (RefusedAt 1 (question1 h ls)) ≡ RefusedAt n k
-    go true true p = absurd (clash p)
+    go true true p = absurd (clash (sym p))
     go true false p = p
     go false y p = p
 
--- what a sheet that passed 1 and 2 has
-pub laid-sound : (h : Head) (ls : List (List ℕ)) (os : List Op) → earlyVerdict h ls ≡ Passed → os ≡ loadedOps h ls → Sound h ls os
-laid-sound h ls os e loaded =
+-- what a sheet that passed 1 and 2 has, and the table with its ops
+pub laid-sound : (h : Head) (ls : List (List ℕ)) (codes₀ codes : List ℕ) (reals₀ reals : List Float) → OpsRoom h codes₀ reals₀ → earlyVerdict h ls ≡ Passed
+    → OpsLoaded h ls codes₀ codes reals₀ reals → Sound h ls (tableOps h codes reals)
+laid-sound h ls codes₀ codes reals₀ reals room e loaded =
     let s = early-laid h ls e in
     let y = yes-of (question2 h) (h .terms) (termLines h ls) (opList h ls) (s .1) in
     let few = leb-true (h .ops) 4096 (y .ops) in
@@ -86,50 +84,54 @@ laid-sound h ls os e loaded =
       limit = leb-true (h .limit) 1048576 (and-true (leb 1 (h .limit)) (leb (h .limit) 1048576) (y .limit) .1);
       terms = leb-true (h .terms) 1024 (and-true (leb (h .terms) 1024) (leb (h .terms) (h .limit)) (y .terms) .0);
       ops = few;
-      table = ops-loaded h ls os loaded few (s .0);
+      table = ops-loaded h ls codes₀ codes reals₀ reals loaded (room .long) (room .long′) few (s .0);
     }
 
--- ---- the table holds the lines of a sheet of at most 256 qubits and 1,024 `term` lines
-narrow : (q : ℕ) → 1 ≤ q → q ≤ 256 → (1 ≤ widthOf q) × (widthOf q ≤ 4)
-narrow q a b = (omega arith, omega arith)
+-- ---- room for a sheet of at most 256 qubits
+wide-room : (w t n : ℕ) → w ≤ 4 → t ≤ n → t * (2 * w) ≤ 8 * n
+wide-room zero t n b c = omega arith
+wide-room (suc zero) t n b c = omega arith
+wide-room (suc (suc zero)) t n b c = omega arith
+wide-room (suc (suc (suc zero))) t n b c = omega arith
+wide-room (suc (suc (suc (suc zero)))) t n b c = omega arith
+wide-room (suc (suc (suc (suc (suc w))))) t n b c = absurd (omega arith)
 
-table-room : (w t : ℕ) → 1 ≤ w → w ≤ 4 → t ≤ 1024 → (t * (2 * w) ≤ 8192) × (t ≤ 8192 / (2 * w))
-table-room zero t a b c = absurd (omega arith)
-table-room (suc zero) t a b c = (omega arith, omega arith)
-table-room (suc (suc zero)) t a b c = (omega arith, omega arith)
-table-room (suc (suc (suc zero))) t a b c = (omega arith, omega arith)
-table-room (suc (suc (suc (suc zero)))) t a b c = (omega arith, omega arith)
-table-room (suc (suc (suc (suc (suc w))))) t a b c = absurd (omega arith)
+module _ (h : Head) (ls : List (List ℕ)) (e : earlyVerdict h ls ≡ Passed) where
+  second : Yes (question2 h) (termLines h ls) (opList h ls)
+  second = yes-of (question2 h) (h .terms) (termLines h ls) (opList h ls) (early-laid h ls e .1)
+
+  pub few-ops : h .ops ≤ 4096
+  few-ops = leb-true (h .ops) 4096 (second .ops)
+
+  pub few-terms : h .terms ≤ 1024
+  few-terms = leb-true (h .terms) 1024 (and-true (leb (h .terms) 1024) (leb (h .terms) (h .limit)) (second .terms) .0)
+
+  -- a table for n lines that is zeros
+  pub lines-room : (n : ℕ) (keys : List ℕ) (weights : List Float) → h .terms ≤ n → length keys ≡ 8 * n → keys ≡ replicate (8 * n) 0 → length weights ≡ n → LinesRoom h keys weights
+  lines-room n keys weights few lk blank lw =
+      let q = leb-true (h .qubits) 256 (and-true (leb 1 (h .qubits)) (leb (h .qubits) 256) (second .qubits) .1) in
+      let r = wide-room (widthOf (h .qubits)) (h .terms) n (omega (arith, q)) few in
+      record {
+        long = omega (arith, r, lk);
+        blank = blank ∙ ap (λ (x : ℕ). replicate x 0) (sym lk);
+        long′ = omega (arith, few, lw);
+      }
 
 -- ---- the run of a sheet that passed, from its table
-module _ (h : Head) (ls : List (List ℕ)) (os : List Op) (ws : List ℕ) (cs ms : List Float) (clear : Cleared h ls os ws cs ms)
-    (w : ℕ) (ew : w ≡ widthOf (h .qubits)) (keys : List ℕ) (weights₀ weights : List Float) (long : length weights₀ ≡ 1024)
-    (given : LinesLoaded w h ls (replicate 8192 0) keys weights₀ weights) where
-  loaded : LinesLoaded (widthOf (h .qubits)) h ls (replicate 8192 0) keys weights₀ weights
-  loaded = subst (λ (x : ℕ). LinesLoaded x h ls (replicate 8192 0) keys weights₀ weights) ew given
+module _ (h : Head) (ls : List (List ℕ)) (os : List Op) (ws : List ℕ) (cs ms : List Float) (ix : List ℕ) (clear : Cleared h ls os ws cs ms)
+    (w : ℕ) (ew : w ≡ widthOf (h .qubits)) (keys₀ keys : List ℕ) (weights₀ weights : List Float) (room : LinesRoom h keys₀ weights₀)
+    (given : LinesLoaded w h ls keys₀ keys weights₀ weights) where
+  loaded : LinesLoaded (widthOf (h .qubits)) h ls keys₀ keys weights₀ weights
+  loaded = subst (λ (x : ℕ). LinesLoaded x h ls keys₀ keys weights₀ weights) ew given
 
-  qubits-some : 1 ≤ h .qubits
-  qubits-some =
-      let y = yes-of (question2 h) (h .terms) (termLines h ls) (opList h ls) (answers-of h ls _ _ (clear .passed) .two) in
-      leb-true 1 (h .qubits) (and-true (leb 1 (h .qubits)) (leb (h .qubits) 256) (y .qubits) .0)
+  answers : Yes (question2 h) (termLines h ls) (opList h ls)
+  answers = yes-of (question2 h) (h .terms) (termLines h ls) (opList h ls) (answers-of h ls _ _ (clear .passed) .two)
 
-  terms-limit : leb (h .terms) (h .limit) ≡ true
-  terms-limit =
-      let y = yes-of (question2 h) (h .terms) (termLines h ls) (opList h ls) (answers-of h ls _ _ (clear .passed) .two) in
-      and-true (leb (h .terms) 1024) (leb (h .terms) (h .limit)) (y .terms) .1
-
-  room : (h .terms * (2 * widthOf (h .qubits)) ≤ 8192) × (h .terms ≤ 8192 / (2 * widthOf (h .qubits)))
-  room =
-      let n = narrow (h .qubits) qubits-some (clear .sound .qubits) in
-      table-room (widthOf (h .qubits)) (h .terms) (n .0) (n .1) (clear .sound .terms)
-
-  keys-are : length {A = ℕ} (replicate 8192 0) ≡ 8192
-  keys-are = length-replicate {A = ℕ} 8192 0
+  some-words : widthOf (h .qubits) ≡ 0 → ⊥
+  some-words z = let q = leb-true 1 (h .qubits) (and-true (leb 1 (h .qubits)) (leb (h .qubits) 256) (answers .qubits) .0) in omega arith
 
   same-lines : tab (h .terms) (lineAt (widthOf (h .qubits)) keys weights) ≡ map (wordLine (widthOf (h .qubits))) (termLines h ls)
-  same-lines =
-      lines-loaded (widthOf (h .qubits)) h ls (replicate 8192 0) keys weights₀ weights loaded (subst (λ (x : ℕ). h .terms * (2 * widthOf (h .qubits)) ≤ x) (sym keys-are) (room .0)) (subst (λ (x : ℕ). h .terms ≤ x) (sym long) (clear .sound .terms))
-      (ap (λ (x : ℕ). replicate x 0) (sym keys-are)) (clear .sound .laid)
+  same-lines = lines-loaded (widthOf (h .qubits)) h ls keys₀ keys weights₀ weights loaded (room .long) (room .long′) (room .blank) (clear .sound .laid)
 
   same-task : tableTask h keys weights os ≡ taskOf h ls
   same-task =
@@ -138,67 +140,69 @@ module _ (h : Head) (ls : List (List ℕ)) (os : List Op) (ws : List ℕ) (cs ms
   pub runnable : Runnable h keys weights os ws cs ms
   runnable = record {
     pass = ap (passes (h .run)) same-task ∙ passed-passes h ls _ _ (clear .passed);
-    given = ap₂ _&&_ terms-limit (ap₂ _&&_ keys-fit weights-fit);
+    given = ap₂ _&&_ (and-true (leb (h .terms) 1024) (leb (h .terms) (h .limit)) (answers .terms) .1) (ap₂ _&&_ keys-fit weights-fit);
     room = answers-of h ls _ _ (clear .passed) .room;
   }
     where
       keys-fit : leb (h .terms) (length keys / (2 * widthOf (h .qubits))) ≡ true
-      keys-fit = ap (λ (x : ℕ). leb (h .terms) (x / (2 * widthOf (h .qubits)))) (lines-keys-long _ h ls _ keys _ weights loaded ∙ keys-are) ∙ le-leb _ _ (room .1)
+      keys-fit =
+          rows-hold (h .terms) (widthOf (h .qubits)) (length keys) _ some-words refl
+          ∙ ap (leb (h .terms * (2 * widthOf (h .qubits)))) (lines-keys-long _ h ls _ keys _ weights loaded) ∙ le-leb _ _ (room .long)
 
       weights-fit : leb (h .terms) (length weights) ≡ true
-      weights-fit = ap (leb (h .terms)) (lines-weights-long _ h ls _ keys _ weights loaded ∙ long) ∙ le-leb _ _ (clear .sound .terms)
+      weights-fit = ap (leb (h .terms)) (lines-weights-long _ h ls _ keys _ weights loaded) ∙ le-leb _ _ (room .long′)
 
-  pub replied : {ws′ : List ℕ} {cs′ ms′ : List Float} (end : Ending) (t : ℕ) (r : Reply) → Ended h (tableRun h keys weights os) end ws ws′ cs cs′ ms ms′ → t ≡ tCountOf (h .run) (take (h .ops) os)
-      → r ≡ replyEnd (h .run) (h .qubits) t end → Replied h ls Passed r ws ws′ cs cs′ ms ms′
-  replied {ws′} {cs′} {ms′} end t r ended et er =
+  pub replied : {ws′ : List ℕ} {cs′ ms′ : List Float} {ix′ : List ℕ} (end : Ending) (t : ℕ) (r : Reply) → Ended h (tableRun h keys weights os) end ws ws′ cs cs′ ms ms′ ix ix′ → t ≡ tCountOf (h .run) os
+      → r ≡ replyEnd (h .run) (h .qubits) t end → Replied h ls Passed r ws ws′ cs cs′ ms ms′ ix ix′
+  replied {ws′} {cs′} {ms′} {ix′} end t r ended et er =
       let same : tableRun h keys weights os ≡ runOf h ls = ap (outcomeOf (h .run)) same-task in
       record {
         reply = er ∙ ap₂ (replyEnd (h .run) (h .qubits)) (et ∙ ap (tCountOf (h .run)) (clear .sound .table)) (ended .answer ∙ ap endingOf same) ∙ reply-of-end (h .run) (taskOf h ls) (opList h ls);
-        memory = subst (λ (x : Stage Outcome). Leaves h x ws ws′ cs cs′ ms ms′) same (ended .memory);
+        memory = subst (λ (x : Stage Outcome). Leaves h x ws ws′ cs cs′ ms ms′ ix ix′) same (ended .memory);
       }
 
 -- ---- the steps of `answer`
-pub cleared : (h : Head) (ls : List (List ℕ)) (os : List Op) (ws : List ℕ) (cs ms : List Float) (w rows : ℕ) (v : Verdict) → earlyVerdict h ls ≡ Passed → os ≡ loadedOps h ls
+pub cleared : (h : Head) (ls : List (List ℕ)) (os : List Op) (ws : List ℕ) (cs ms : List Float) (w rows : ℕ) (v : Verdict) → earlyVerdict h ls ≡ Passed → Sound h ls os
     → w ≡ widthOf (h .qubits) → rows ≡ rowsIn w ws cs → v ≡ laterVerdict h ls rows (length ms) → v ≡ Passed → Cleared h ls os ws cs ms
-cleared h ls os ws cs ms w rows v e loaded ew er ev f = record {
-  sound = laid-sound h ls os e loaded;
+cleared h ls os ws cs ms w rows v e sound ew er ev f = record {
+  sound = sound;
   passed = early-passed h ls _ _ e ∙ ap (λ (x : ℕ). laterVerdict h ls x (length ms)) (sym (er ∙ ap (λ (x : ℕ). rowsIn x ws cs) ew)) ∙ sym ev ∙ f;
 }
 
-pub later-refused : (h : Head) (ls : List (List ℕ)) (ws : List ℕ) (cs ms : List Float) (w rows n k : ℕ) (v : Verdict) (r : Reply) → w ≡ widthOf (h .qubits) → rows ≡ rowsIn w ws cs
+pub later-refused : (h : Head) (ls : List (List ℕ)) (ws : List ℕ) (cs ms : List Float) (ix : List ℕ) (w rows n k : ℕ) (v : Verdict) (r : Reply) → w ≡ widthOf (h .qubits) → rows ≡ rowsIn w ws cs
     → v ≡ laterVerdict h ls rows (length ms) → v ≡ RefusedAt n k → r ≡ refusal n k
-    → Replied h ls (laterVerdict h ls (rowsIn (widthOf (h .qubits)) ws cs) (length ms)) r ws ws cs cs ms ms
-later-refused h ls ws cs ms w rows n k v r ew er ev f g =
+    → Replied h ls (laterVerdict h ls (rowsIn (widthOf (h .qubits)) ws cs) (length ms)) r ws ws cs cs ms ms ix ix
+later-refused h ls ws cs ms ix w rows n k v r ew er ev f g =
     let e : RefusedAt n k ≡ laterVerdict h ls (rowsIn (widthOf (h .qubits)) ws cs) (length ms) = sym f ∙ ev ∙ ap (λ (x : ℕ). laterVerdict h ls x (length ms)) (er ∙ ap (λ (x : ℕ). rowsIn x ws cs) ew) in
-    subst (λ (x : Verdict). Replied h ls x r ws ws cs cs ms ms) e (record { reply = g; memory = record { words = refl; coeffs = refl; means = refl } })
+    subst (λ (x : Verdict). Replied h ls x r ws ws cs cs ms ms ix ix) e (record { reply = g; memory = record { words = refl; coeffs = refl; means = refl; index = refl } })
 
-pub later-replied : (h : Head) (ls : List (List ℕ)) (ws ws′ : List ℕ) (cs cs′ ms ms′ : List Float) (w rows : ℕ) (v : Verdict) (r : Reply) → w ≡ widthOf (h .qubits) → rows ≡ rowsIn w ws cs
-    → v ≡ laterVerdict h ls rows (length ms) → v ≡ Passed → Replied h ls Passed r ws ws′ cs cs′ ms ms′
-    → Replied h ls (laterVerdict h ls (rowsIn (widthOf (h .qubits)) ws cs) (length ms)) r ws ws′ cs cs′ ms ms′
-later-replied h ls ws ws′ cs cs′ ms ms′ w rows v r ew er ev f g =
+pub later-replied : (h : Head) (ls : List (List ℕ)) (ws ws′ : List ℕ) (cs cs′ ms ms′ : List Float) (ix ix′ : List ℕ) (w rows : ℕ) (v : Verdict) (r : Reply) → w ≡ widthOf (h .qubits) → rows ≡ rowsIn w ws cs
+    → v ≡ laterVerdict h ls rows (length ms) → v ≡ Passed → Replied h ls Passed r ws ws′ cs cs′ ms ms′ ix ix′
+    → Replied h ls (laterVerdict h ls (rowsIn (widthOf (h .qubits)) ws cs) (length ms)) r ws ws′ cs cs′ ms ms′ ix ix′
+later-replied h ls ws ws′ cs cs′ ms ms′ ix ix′ w rows v r ew er ev f g =
     let e : Passed ≡ laterVerdict h ls (rowsIn (widthOf (h .qubits)) ws cs) (length ms) = sym f ∙ ev ∙ ap (λ (x : ℕ). laterVerdict h ls x (length ms)) (er ∙ ap (λ (x : ℕ). rowsIn x ws cs) ew) in
-    subst (λ (x : Verdict). Replied h ls x r ws ws′ cs cs′ ms ms′) e g
+    subst (λ (x : Verdict). Replied h ls x r ws ws′ cs cs′ ms ms′ ix ix′) e g
 
-module _ (s : List ℕ) (ws ws′ : List ℕ) (cs cs′ ms ms′ : List Float) (r : Reply) where
+module _ (s : List ℕ) (ws ws′ : List ℕ) (cs cs′ ms ms′ : List Float) (ix ix′ : List ℕ) (r : Reply) where
   abbrev ls : List (List ℕ)
   ls = parts newline s
 
   -- by the verdict on the sheet, the answer
-  answered-by : (v : Verdict) → verdict (headOf ls) ls (rowsIn (widthOf (headOf ls .qubits)) ws cs) (length ms) ≡ v → Replied (headOf ls) ls v r ws ws′ cs cs′ ms ms′ → Answered s r ws ws′ cs cs′ ms ms′
+  answered-by : (v : Verdict) → verdict (headOf ls) ls (rowsIn (widthOf (headOf ls .qubits)) ws cs) (length ms) ≡ v → Replied (headOf ls) ls v r ws ws′ cs cs′ ms ms′ ix ix′ → Answered s r ws ws′ cs cs′ ms ms′ ix ix′
   unfolding replyOf
   answered-by v e g = record {
     reply = g .reply ∙ ap (replyTo (headOf ls) ls) (sym e);
-    memory = subst (λ (x : Verdict). LeavesBy (headOf ls) ls x ws ws′ cs cs′ ms ms′) (sym e) (g .memory);
+    memory = subst (λ (x : Verdict). LeavesBy (headOf ls) ls x ws ws′ cs cs′ ms ms′ ix ix′) (sym e) (g .memory);
   }
 
   pub answered-laid : (h : Head) → h ≡ headOf ls → (v : Verdict) → v ≡ earlyVerdict h ls → v ≡ Passed
-      → Replied h ls (laterVerdict h ls (rowsIn (widthOf (h .qubits)) ws cs) (length ms)) r ws ws′ cs cs′ ms ms′ → Answered s r ws ws′ cs cs′ ms ms′
+      → Replied h ls (laterVerdict h ls (rowsIn (widthOf (h .qubits)) ws cs) (length ms)) r ws ws′ cs cs′ ms ms′ ix ix′ → Answered s r ws ws′ cs cs′ ms ms′ ix ix′
   answered-laid h eh v ev f g =
       let e = subst (λ (x : Head). earlyVerdict x ls ≡ Passed) eh (sym ev ∙ f) in
-      answered-by _ (early-passed (headOf ls) ls _ _ e) (subst (λ (x : Head). Replied x ls (laterVerdict x ls (rowsIn (widthOf (x .qubits)) ws cs) (length ms)) r ws ws′ cs cs′ ms ms′) eh g)
+      answered-by _ (early-passed (headOf ls) ls _ _ e) (subst (λ (x : Head). Replied x ls (laterVerdict x ls (rowsIn (widthOf (x .qubits)) ws cs) (length ms)) r ws ws′ cs cs′ ms ms′ ix ix′) eh g)
 
-pub answered-refused : (s : List ℕ) (ws : List ℕ) (cs ms : List Float) (r : Reply) (h : Head) (n k : ℕ) (v : Verdict) → h ≡ headOf (parts newline s) → v ≡ earlyVerdict h (parts newline s)
-    → v ≡ RefusedAt n k → r ≡ refusal n k → Answered s r ws ws cs cs ms ms
-answered-refused s ws cs ms r h n k v eh ev f g =
+pub answered-refused : (s : List ℕ) (ws : List ℕ) (cs ms : List Float) (ix : List ℕ) (r : Reply) (h : Head) (n k : ℕ) (v : Verdict) → h ≡ headOf (parts newline s) → v ≡ earlyVerdict h (parts newline s)
+    → v ≡ RefusedAt n k → r ≡ refusal n k → Answered s r ws ws cs cs ms ms ix ix
+answered-refused s ws cs ms ix r h n k v eh ev f g =
     let e = subst (λ (x : Head). earlyVerdict x (parts newline s) ≡ RefusedAt n k) eh (sym ev ∙ f) in
-    answered-by s ws ws cs cs ms ms r (RefusedAt n k) (early-refused (headOf (parts newline s)) (parts newline s) _ _ n k e) (record { reply = g; memory = record { words = refl; coeffs = refl; means = refl } })
+    answered-by s ws ws cs cs ms ms ix ix r (RefusedAt n k) (early-refused (headOf (parts newline s)) (parts newline s) _ _ n k e) (record { reply = g; memory = record { words = refl; coeffs = refl; means = refl; index = refl } })

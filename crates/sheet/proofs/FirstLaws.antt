@@ -66,7 +66,7 @@ pub ops-next : (q : Question) (t : ℕ) (os : List Op) (r : Bool) (n : ℕ) → 
 ops-next q t os r n e f g = g ∙ sym (ap (λ (b : Bool). cond (eqb (cond b 0 (7 + t)) 0) (firstOf (q .op) (8 + t) os) (cond b 0 (7 + t))) (sym e ∙ f))
 
 -- the lines of the head, the `term` lines, the ops
-pub line-is : (a : Asked) (h : Head) (ls : List (List ℕ)) (os : List Op) → Ready a h ls os → (x y z u r : ℕ) → z ≡ opsLine (questionOf a h) (h .terms) (take (h .ops) os)
+pub line-is : (a : Asked) (h : Head) (ls : List (List ℕ)) (os : List Op) → Ready a h ls os → (x y z u r : ℕ) → z ≡ opsLine (questionOf a h) (h .terms) os
     → y ≡ firstOf (termTest a h) 7 (termLines h ls) → x ≡ headLine (questionOf a h) → u ≡ (y orElse z) → r ≡ (x orElse u) → r ≡ lineOf a h ls
 line-is a h ls os ready x y z u r ez ey ex eu er =
     er ∙ ap₂ _orElse_ ex (eu ∙ ap₂ _orElse_ (ey ∙ ready .test) (ez ∙ ap (opsLine (questionOf a h) (h .terms)) (ready .sound .table)))

@@ -5,7 +5,7 @@ use mathlib.Core.Bool.{Bool, true, cond, _&&_}
 use mathlib.Core.List.{List, [], _++_}
 use lib.Dec.{leb, eqb}
 use lib.IntN.{ℤ}
-use lib.ListN.{length, take, drop}
+use lib.ListN.{length, drop, replicate}
 use lib.Ieee.{Float}
 use mir.Syntax.{w64}
 use mir.Val.{SFits, toZ, ofZ}
@@ -53,7 +53,7 @@ middle : (a b c d e : Bool) → (a && b && (c && d) && e) ≡ true → (c && b) 
 middle a b c d e h = let p = and-true (a && b) (c && d) (and-true (a && b && (c && d)) e h .0) in ap₂ _&&_ (and-true c d (p .1) .0) (and-true a b (p .0) .1)
 
 -- ---- a run that is held is the run that was asked for
-module _ (h : Head) (keys : List ℕ) (weights : List Float) (os : List Op) (ws : List ℕ) (cs m : List Float) (ok : Runnable h keys weights os ws cs m) where
+module _ (h : Head) (keys : List ℕ) (weights : List Float) (os : List Op) (ws : List ℕ) (cs m : List Float) (ix : List ℕ) (ok : Runnable h keys weights os ws cs m) where
   abbrev w : ℕ
   w = widthOf (h .qubits)
 
@@ -66,17 +66,17 @@ module _ (h : Head) (keys : List ℕ) (weights : List Float) (os : List Op) (ws 
   rows-fit : leb (2 * h .limit) R ≡ true
   rows-fit = and-true (leb (2 * h .limit) R) _ (ok .room) .0
 
-  module _ (l : Limits) (el : l ≡ limitsOf h) (ms : List Bool) {r : Ending} {ws′ : List ℕ} {cs′ : List Float} (given : SumRan (h .qubits) l keys weights (h .terms) (take (h .ops) os) ms r ws ws′ cs cs′) where
-    ran : SumRan (h .qubits) (limitsOf h) keys weights (h .terms) (take (h .ops) os) ms r ws ws′ cs cs′
-    ran = subst (λ (x : Limits). SumRan (h .qubits) x keys weights (h .terms) (take (h .ops) os) ms r ws ws′ cs cs′) el given
+  module _ (l : Limits) (el : l ≡ limitsOf h) (ms : List Bool) {r : Ending} {ws′ : List ℕ} {cs′ : List Float} {ix′ : List ℕ} (given : SumRan (h .qubits) l keys weights (h .terms) os ms r ws ws′ cs cs′ ix ix′) where
+    ran : SumRan (h .qubits) (limitsOf h) keys weights (h .terms) os ms r ws ws′ cs cs′ ix ix′
+    ran = subst (λ (x : Limits). SumRan (h .qubits) x keys weights (h .terms) os ms r ws ws′ cs cs′ ix ix′) el given
 
     is-held : isHeld w (limitsOf h) keys weights (Lines (h .terms)) R ≡ true
     is-held = ap₂ _&&_ (ok .given) rows-fit
 
-    is-run : sumAsked (h .qubits) (limitsOf h) keys weights (h .terms) (take (h .ops) os) ms R ≡ sumRun t ms
+    is-run : sumAsked (h .qubits) (limitsOf h) keys weights (h .terms) os ms R ≡ sumRun t ms
     is-run = ap (λ (b : Bool). ask 2 b (ask 7 (leb (2 * h .limit) R) (sumRun t ms))) (ok .given) ∙ ap (λ (b : Bool). ask 7 b (sumRun t ms)) rows-fit
 
-    pub sum-ended : tableRun h keys weights os ≡ sumRun t ms → meansAfter (h .run) (h .qubits) (tableRun h keys weights os) m ≡ m → Ended h (tableRun h keys weights os) r ws ws′ cs cs′ m m
+    pub sum-ended : tableRun h keys weights os ≡ sumRun t ms → meansAfter (h .run) (h .qubits) (tableRun h keys weights os) m ≡ m → Ended h (tableRun h keys weights os) r ws ws′ cs cs′ m m ix ix′
     sum-ended e f =
         let g = is-run ∙ sym e in
         record {
@@ -85,23 +85,19 @@ module _ (h : Head) (keys : List ℕ) (weights : List Float) (os : List Op) (ws 
             words = ran .words ∙ ap₂ (λ (b : Bool) (s : Stage Outcome). cond b (wordsWith w R (leftBy s) ws) ws) is-held g;
             coeffs = ran .coeffs ∙ ap₂ (λ (b : Bool) (s : Stage Outcome). cond b (coeffsWith R (leftBy s) cs) cs) is-held g;
             means = sym f;
+            index = ran .index ∙ ap (λ (b : Bool). cond b (replicate (length ix) 0) ix) is-held;
           };
         }
 
-    pub full-ended : h .run ≡ Full → ms ≡ markAll (take (h .ops) os) → Ended h (tableRun h keys weights os) r ws ws′ cs cs′ m m
-    full-ended e k = sum-ended (ap (λ (x : Run). outcomeOf x t) e ∙ ap (sumRun t) (sym k)) (ap (λ (x : Run). meansAfter x (h .qubits) (tableRun h keys weights os) m) e)
+    -- full, path and cone differ in their marks
+    pub marked-ended : (x : Run) → h .run ≡ x → outcomeOf x t ≡ sumRun t ms → meansAfter x (h .qubits) (tableRun h keys weights os) m ≡ m → Ended h (tableRun h keys weights os) r ws ws′ cs cs′ m m ix ix′
+    marked-ended x e k f = sum-ended (ap (λ (y : Run). outcomeOf y t) e ∙ k) (ap (λ (y : Run). meansAfter y (h .qubits) (tableRun h keys weights os) m) e ∙ f)
 
-    pub path-ended : h .run ≡ Path → ms ≡ markPath (take (h .ops) os) → Ended h (tableRun h keys weights os) r ws ws′ cs cs′ m m
-    path-ended e k = sum-ended (ap (λ (x : Run). outcomeOf x t) e ∙ ap (sumRun t) (sym k)) (ap (λ (x : Run). meansAfter x (h .qubits) (tableRun h keys weights os) m) e)
-
-    cone-run : h .run ≡ Cone → ms ≡ markCone (observed t) (take (h .ops) os) → Ended h (tableRun h keys weights os) r ws ws′ cs cs′ m m
-    cone-run e k = sum-ended (ap (λ (x : Run). outcomeOf x t) e ∙ ap (sumRun t) (sym k)) (ap (λ (x : Run). meansAfter x (h .qubits) (tableRun h keys weights os) m) e)
-
-  pub cone-ended : (l : Limits) → l ≡ limitsOf h → {r : Ending} {ws′ : List ℕ} {cs′ : List Float} → ConeRan (h .qubits) l keys weights (h .terms) (take (h .ops) os) r ws ws′ cs cs′
-      → h .run ≡ Cone → Ended h (tableRun h keys weights os) r ws ws′ cs cs′ m m
-  cone-ended l el {r} {ws′} {cs′} given e =
-      let ran = subst (λ (x : Limits). ConeRan (h .qubits) x keys weights (h .terms) (take (h .ops) os) r ws ws′ cs cs′) el given in
-      cone-run (limitsOf h) refl _ (ran .cone (sym (ap (λ (x : Run). passes x t) e) ∙ ok .pass)) e refl
+  pub cone-ended : (l : Limits) → l ≡ limitsOf h → {r : Ending} {ws′ : List ℕ} {cs′ : List Float} {ix′ : List ℕ} → ConeRan (h .qubits) l keys weights (h .terms) os r ws ws′ cs cs′ ix ix′
+      → h .run ≡ Cone → Ended h (tableRun h keys weights os) r ws ws′ cs cs′ m m ix ix′
+  cone-ended l el {r} {ws′} {cs′} {ix′} given e =
+      let ran = subst (λ (x : Limits). ConeRan (h .qubits) x keys weights (h .terms) os r ws ws′ cs cs′ ix ix′) el given in
+      marked-ended (limitsOf h) refl _ (ran .cone (sym (ap (λ (x : Run). passes x t) e) ∙ ok .pass)) Cone e refl refl
 
   -- ---- `all`, which has no terms
   module _ (e : h .run ≡ All) where
@@ -115,9 +111,9 @@ module _ (h : Head) (keys : List ℕ) (weights : List Float) (os : List Op) (ws 
         let q = and-true (question2 t) (question3 All t) p .1 in
         sym (length-tab (h .terms) (lineAt w keys weights)) ∙ eqb-true _ 0 (and-true (eqb (length (t .lines)) 0) (channelFree t) q .0)
 
-    all-task : allTask (h .qubits) (limitsOf h) (take (h .ops) os) ≡ t
+    all-task : allTask (h .qubits) (limitsOf h) os ≡ t
     unfolding tab
-    all-task = ap (λ (k : ℕ). record { qubits = h .qubits; limits = limitsOf h; lines = tab k (lineAt w keys weights); ops = take (h .ops) os }) (sym no-lines)
+    all-task = ap (λ (k : ℕ). record { qubits = h .qubits; limits = limitsOf h; lines = tab k (lineAt w keys weights); ops = os }) (sym no-lines)
 
     few : fitsAll (h .qubits) (limitsOf h) ≡ true
     unfolding question2
@@ -126,17 +122,17 @@ module _ (h : Head) (keys : List ℕ) (weights : List Float) (os : List Op) (ws 
     room : roomAll (h .qubits) (limitsOf h) R (length m) ≡ true
     room = sym (ap (λ (x : Run). leb (2 * h .limit) R && placesFit x (h .qubits) (length m)) e) ∙ ok .room
 
-    all-run : allAsked (h .qubits) (limitsOf h) (take (h .ops) os) R (length m) ≡ tableRun h keys weights os
+    all-run : allAsked (h .qubits) (limitsOf h) os R (length m) ≡ tableRun h keys weights os
     all-run =
-        ap (λ (b : Bool). ask 2 b (ask 7 (roomAll (h .qubits) (limitsOf h) R (length m)) (allRuns (allTask (h .qubits) (limitsOf h) (take (h .ops) os)) (h .qubits)))) few
-        ∙ ap (λ (b : Bool). ask 7 b (allRuns (allTask (h .qubits) (limitsOf h) (take (h .ops) os)) (h .qubits))) room
+        ap (λ (b : Bool). ask 2 b (ask 7 (roomAll (h .qubits) (limitsOf h) R (length m)) (allRuns (allTask (h .qubits) (limitsOf h) os) (h .qubits)))) few
+        ∙ ap (λ (b : Bool). ask 7 b (allRuns (allTask (h .qubits) (limitsOf h) os) (h .qubits))) room
         ∙ ap (λ (x : Task). allRuns x (h .qubits)) all-task ∙ sym (ap (λ (x : Run). outcomeOf x t) e)
 
-    pub all-ended : (l : Limits) → l ≡ limitsOf h → {r : Ending} {ws′ : List ℕ} {cs′ m′ : List Float}
-        → AllRan (h .qubits) (allHeld (h .qubits) l R (length m)) (allAsked (h .qubits) l (take (h .ops) os) R (length m)) r ws ws′ cs cs′ m m′
-        → leftBy (tableRun h keys weights os) ≡ [] → Ended h (tableRun h keys weights os) r ws ws′ cs cs′ m m′
-    all-ended l el {r} {ws′} {cs′} {m′} given none =
-        let ran = subst (λ (x : Limits). AllRan (h .qubits) (allHeld (h .qubits) x R (length m)) (allAsked (h .qubits) x (take (h .ops) os) R (length m)) r ws ws′ cs cs′ m m′) el given in
+    pub all-ended : (l : Limits) → l ≡ limitsOf h → {r : Ending} {ws′ : List ℕ} {cs′ m′ : List Float} {ix′ : List ℕ}
+        → AllRan (h .qubits) (allHeld (h .qubits) l R (length m)) (allAsked (h .qubits) l os R (length m)) r ws ws′ cs cs′ m m′ ix ix′
+        → leftBy (tableRun h keys weights os) ≡ [] → Ended h (tableRun h keys weights os) r ws ws′ cs cs′ m m′ ix ix′
+    all-ended l el {r} {ws′} {cs′} {m′} {ix′} given none =
+        let ran = subst (λ (x : Limits). AllRan (h .qubits) (allHeld (h .qubits) x R (length m)) (allAsked (h .qubits) x os R (length m)) r ws ws′ cs cs′ m m′ ix ix′) el given in
         let held : allHeld (h .qubits) (limitsOf h) R (length m) ≡ true = ap₂ _&&_ few room in
         record {
           answer = ran .answer ∙ ap endingOf all-run;
@@ -145,5 +141,6 @@ module _ (h : Head) (keys : List ℕ) (weights : List Float) (os : List Op) (ws 
             coeffs = ran .coeffs ∙ ap (λ (b : Bool). cond b (coeffsWith R [] cs) cs) held ∙ sym (ap (λ (l : List Term). coeffsWith R l cs) none);
             means = ran .means ∙ ap₂ (λ (b : Bool) (s : Stage Outcome). cond b (meansOf (h .qubits) s ++ drop (h .qubits) m) m) held all-run
                 ∙ sym (ap (λ (x : Run). meansAfter x (h .qubits) (tableRun h keys weights os) m) e);
+            index = ran .index ∙ ap (λ (b : Bool). cond b (replicate (length ix) 0) ix) held;
           };
         }

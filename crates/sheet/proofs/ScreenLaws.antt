@@ -88,23 +88,31 @@ run-printed : (h : Head) (ops : List Op) (run : Stage Outcome) (ms ms′ : List 
 run-printed h ops (refused n) ms ms′ k e = refusal-places n 0 ms′ []
 run-printed h ops (going o) ms ms′ k e = printed-places (replyRun (h .run) ops (going o)) ms′ (o .means) (means-first (h .run) (h .qubits) o ms ms′ k e)
 
-verdict-printed : (h : Head) (ls : List (List ℕ)) (v : Verdict) (ws ws′ : List ℕ) (cs cs′ ms ms′ : List Float) → LeavesBy h ls v ws ws′ cs cs′ ms ms′
+verdict-printed : (h : Head) (ls : List (List ℕ)) (v : Verdict) (ws ws′ : List ℕ) (cs cs′ ms ms′ : List Float) (ix ix′ : List ℕ) → LeavesBy h ls v ws ws′ cs cs′ ms ms′ ix ix′
     → printed (replyTo h ls v) ms′ ≡ printed (replyTo h ls v) (meansTo h ls v)
-verdict-printed h ls (RefusedAt n k) ws ws′ cs cs′ ms ms′ l = refusal-places n k ms′ []
-verdict-printed h ls Passed ws ws′ cs cs′ ms ms′ l =
+verdict-printed h ls (RefusedAt n k) ws ws′ cs cs′ ms ms′ ix ix′ l = refusal-places n k ms′ []
+verdict-printed h ls Passed ws ws′ cs cs′ ms ms′ ix ix′ l =
     run-printed h (opList h ls) (runOf h ls) ms ms′ (outcome-means (h .run) (taskOf h ls)) (l .means)
 
 -- ---- the answer, printed
-pub answer-printed : {ws ws′ : List ℕ} {cs cs′ ms ms′ : List Float} (s : List ℕ) (r : Reply) → length ws ≡ 4096 → length cs ≡ 1024 → length ms ≡ 256
-    → Answered s r ws ws′ cs cs′ ms ms′ → printed r ms′ ≡ printedOf s 512 256
+pub answer-text : {ws ws′ : List ℕ} {cs cs′ ms ms′ : List Float} {ix ix′ : List ℕ} (s : List ℕ) (r : Reply) → Answered s r ws ws′ cs cs′ ms ms′ ix ix′
+    → printed r ms′ ≡ printedOf s (rowsIn (widthOf (headOf (parts newline s) .qubits)) ws cs) (length ms)
 unfolding replyOf printedOf
-answer-printed {ws} {ws′} {cs} {cs′} {ms} {ms′} s r ew ec em a =
+answer-text {ws} {ws′} {cs} {cs′} {ms} {ms′} {ix} {ix′} s r a =
     let ls = parts newline s in
     let h = headOf ls in
-    let e : verdict h ls (rowsIn (widthOf (h .qubits)) ws cs) (length ms) ≡ verdict h ls 512 256 =
-    verdict-rows h ls ws cs (length ms) ew ec ∙ ap (verdict h ls 512) em in
-    ap (λ (x : Reply). printed x ms′) (a .reply ∙ ap (replyTo h ls) e)
-    ∙ verdict-printed h ls (verdict h ls 512 256) ws ws′ cs cs′ ms ms′ (subst (λ (v : Verdict). LeavesBy h ls v ws ws′ cs cs′ ms ms′) e (a .memory))
+    ap (λ (x : Reply). printed x ms′) (a .reply)
+    ∙ verdict-printed h ls (verdict h ls (rowsIn (widthOf (h .qubits)) ws cs) (length ms)) ws ws′ cs cs′ ms ms′ ix ix′ (a .memory)
+
+-- in the buffers of `bench`
+pub answer-printed : {ws ws′ : List ℕ} {cs cs′ ms ms′ : List Float} {ix ix′ : List ℕ} (s : List ℕ) (r : Reply) → length ws ≡ 4096 → length cs ≡ 1024 → length ms ≡ 256
+    → Answered s r ws ws′ cs cs′ ms ms′ ix ix′ → printed r ms′ ≡ printedOf s 512 256
+unfolding printedOf
+answer-printed {ws} {ws′} {cs} {cs′} {ms} {ms′} {ix} {ix′} s r ew ec em a =
+    let ls = parts newline s in
+    let h = headOf ls in
+    answer-text s r a
+    ∙ ap (λ (v : Verdict). printed (replyTo h ls v) (meansTo h ls v)) (verdict-rows h ls ws cs (length ms) ew ec ∙ ap (verdict h ls 512) em)
 
 pub same-text : {t u : List ℕ} {r : ℕ} {out out′ : List ℕ} → t ≡ u → Printing t r out out′ → Printing u r out out′
 same-text {t} {u} {r} {out} {out′} e p = subst (λ (x : List ℕ). Printing x r out out′) e p

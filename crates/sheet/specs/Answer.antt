@@ -3,7 +3,7 @@ use mathlib.Core.Path.{_≡_}
 use Prim.Native.Nat.{ℕ}
 use mathlib.Core.List.{List, [], _++_, map}
 use lib.IntN.{ℤ, pos}
-use lib.ListN.{length, drop}
+use lib.ListN.{length, drop, replicate}
 use lib.Ieee.{Float}
 use Rattle.numbers.specs.Constants.{zero64}
 use Rattle.numbers.specs.Shown.{shownOf}
@@ -86,25 +86,27 @@ meansAfter All qubits run ms = meansOf qubits run ++ drop qubits ms
 meansAfter Path qubits run ms = ms
 
 -- reply and all lent memory. "1 to 7 leave rows and mean places untouched"; "Success leaves the final terms in order, then zero rows"; "8 and 9
--- set every row to zero"; "what a buffer has beyond them is never touched"
-pub record Leaves (h : Head) (run : Stage Outcome) (ws ws′ : List ℕ) (cs cs′ ms ms′ : List Float) : Type 0 where
+-- set every row to zero"; "what a buffer has beyond them is never touched". The memory of the index is zeros after a run.
+pub record Leaves (h : Head) (run : Stage Outcome) (ws ws′ : List ℕ) (cs cs′ ms ms′ : List Float) (ix ix′ : List ℕ) : Type 0 where
   pub words : ws′ ≡ wordsWith (widthOf (h .qubits)) (rowsIn (widthOf (h .qubits)) ws cs) (leftBy run) ws
   pub coeffs : cs′ ≡ coeffsWith (rowsIn (widthOf (h .qubits)) ws cs) (leftBy run) cs
   pub means : ms′ ≡ meansAfter (h .run) (h .qubits) run ms
+  pub index : ix′ ≡ replicate (length ix) 0
 
-pub record Untouched (ws ws′ : List ℕ) (cs cs′ ms ms′ : List Float) : Type 0 where
+pub record Untouched (ws ws′ : List ℕ) (cs cs′ ms ms′ : List Float) (ix ix′ : List ℕ) : Type 0 where
   pub words : ws′ ≡ ws
   pub coeffs : cs′ ≡ cs
   pub means : ms′ ≡ ms
+  pub index : ix′ ≡ ix
 
-abbrev pub LeavesBy : Head → List (List ℕ) → Verdict → List ℕ → List ℕ → List Float → List Float → List Float → List Float → Type 0
-LeavesBy h ls (RefusedAt n k) ws ws′ cs cs′ ms ms′ = Untouched ws ws′ cs cs′ ms ms′
-LeavesBy h ls Passed ws ws′ cs cs′ ms ms′ = Leaves h (runOf h ls) ws ws′ cs cs′ ms ms′
+abbrev pub LeavesBy : Head → List (List ℕ) → Verdict → List ℕ → List ℕ → List Float → List Float → List Float → List Float → List ℕ → List ℕ → Type 0
+LeavesBy h ls (RefusedAt n k) ws ws′ cs cs′ ms ms′ ix ix′ = Untouched ws ws′ cs cs′ ms ms′ ix ix′
+LeavesBy h ls Passed ws ws′ cs cs′ ms ms′ ix ix′ = Leaves h (runOf h ls) ws ws′ cs cs′ ms ms′ ix ix′
 
 -- the contract of `answer`: s is the sheet, r the reply
-pub record Answered (s : List ℕ) (r : Reply) (ws ws′ : List ℕ) (cs cs′ ms ms′ : List Float) : Type 0 where
+pub record Answered (s : List ℕ) (r : Reply) (ws ws′ : List ℕ) (cs cs′ ms ms′ : List Float) (ix ix′ : List ℕ) : Type 0 where
   pub reply : r ≡ replyOf s (rowsIn (widthOf (headOf (parts newline s) .qubits)) ws cs) (length ms)
-  pub memory : let ls = parts newline s in let h = headOf ls in LeavesBy h ls (verdict h ls (rowsIn (widthOf (h .qubits)) ws cs) (length ms)) ws ws′ cs cs′ ms ms′
+  pub memory : let ls = parts newline s in let h = headOf ls in LeavesBy h ls (verdict h ls (rowsIn (widthOf (h .qubits)) ws cs) (length ms)) ws ws′ cs cs′ ms ms′ ix ix′
 
 -- ---- from the bytes of a sheet to the bytes that are printed
 

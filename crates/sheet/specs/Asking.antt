@@ -3,8 +3,9 @@ use mathlib.Core.Path.{_≡_}
 use Prim.Native.Nat.{ℕ, _≤_}
 use mathlib.Core.Bool.{Bool, _&&_}
 use mathlib.Core.List.{List}
-use lib.ListN.{take}
+use lib.Ieee.{Float}
 use Rattle.turns.specs.declared.Op.{Op}
+use Rattle.turns.specs.OpList as T
 use Rattle.layout.specs.declared.Head.{Head}
 use Rattle.lines.specs.TermLines.{TermLine, qubitsIn, allBelow, distinct}
 use Rattle.layout.specs.Layout.{question1, termLines, opList}
@@ -22,14 +23,18 @@ termTest Four h l = questionOf Four h .term l
 termTest Five h l = questionOf Five h .term l
 termTest Six h l = let qs = qubitsIn (l .factors) in allBelow 256 qs && distinct qs
 
--- what questions 3 to 7 may rely on: the sheet passes 1 and 2, and its op list is in a table
+-- the ops in a table: two slices, see turns OpList
+abbrev pub tableOps : Head → List ℕ → List Float → List Op
+tableOps h codes reals = T.opList (h .ops) codes reals
+
+-- what questions 3 to 7 may rely on: the sheet passes 1 and 2, and os, the ops in a table, are its op list
 pub record Sound (h : Head) (ls : List (List ℕ)) (os : List Op) : Type 0 where
   pub laid : question1 h ls ≡ 0
   pub qubits : h .qubits ≤ 256
   pub limit : h .limit ≤ 1048576
   pub terms : h .terms ≤ 1024
   pub ops : h .ops ≤ 4096
-  pub table : take (h .ops) os ≡ opList h ls
+  pub table : os ≡ opList h ls
 
 -- one question: and the test of the `term` lines is its own
 pub record Ready (asked : Asked) (h : Head) (ls : List (List ℕ)) (os : List Op) : Type 0 where

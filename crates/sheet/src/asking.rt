@@ -1,11 +1,10 @@
 // The first line of a sheet at which the answer to a question is no.
 ghost use mathlib.Core.Path.{_≡_};
 ghost use Prim.Native.Nat.{_+_, _≤_};
-ghost use lib.ListN.{take};
 ghost use Rattle.text.specs.Bytes.{parts, newline};
 ghost use Rattle.layout.specs.Layout.{question1, termLines};
 ghost use Rattle.sheet.specs.Questions.{questionOf, firstOf, _orElse_, opsLine, lineOf};
-ghost use Rattle.sheet.specs.Asking.{termTest, Ready};
+ghost use Rattle.sheet.specs.Asking.{termTest, tableOps, Ready};
 use crate::Asked;
 use crate::headtests::head_line;
 use crate::headtests::ops_fit;
@@ -16,6 +15,8 @@ use layout::cursor::line_at;
 use layout::cursor::next_at;
 use layout::cursor::start_at;
 use turns::Op;
+use turns::oplist::op_at;
+use turns::oplist::op_count;
 
 fn op_fits(asked: Asked, head: Head, op: Op) -> bool
     ensures { λ r. ⌜ r ≡ questionOf asked head .op op ⌝ }
@@ -31,14 +32,16 @@ fn op_fits(asked: Asked, head: Head, op: Op) -> bool
     }
 }
 
-// The first of the n ops in a table that fails, where the first of them stands at line k.
-fn first_op(asked: Asked, head: Head, ops: [Op; 4096], n: usize, k: usize) -> usize
-    requires { ⌜ (n ≤ 4096) × (k ≤ 2000) ⌝ }
-    ensures { λ r. ⌜ r ≡ firstOf (questionOf asked head .op) k (take n ops) ⌝ }
+// The first of the ops in a table that fails, where the first of them stands at line k.
+fn first_op(asked: Asked, head: Head, codes: &[usize], reals: &[f64], k: usize) -> usize
+    requires { ⌜ k ≤ 2000 ⌝ }
+    ensures { λ r. ⌜ r ≡ firstOf (questionOf asked head .op) k (tableOps head (now (codes .entry)) (now (reals .entry))) ⌝ }
 {
+    let ops = head.ops;
+    let n = op_count(ops, codes.len(), reals.len());
     let mut i = 0;
     while i < n {
-        let op = ops[i];
+        let op = op_at(codes, reals, i);
         if !op_fits(asked, head, op) {
             return k + i;
         }
@@ -47,17 +50,14 @@ fn first_op(asked: Asked, head: Head, ops: [Op; 4096], n: usize, k: usize) -> us
     0
 }
 
-// The line `ops`, or the first op that fails. The ops are looked through first: a function that hands on an array begins with that, see
-// docs/DECISIONS.md on large frames.
-fn ops_line(asked: Asked, head: Head, ops: [Op; 4096]) -> usize
-    requires { ⌜ (head .ops ≤ 4096) × (head .terms ≤ 1024) ⌝ }
-    ensures { λ r. ⌜ r ≡ opsLine (questionOf asked head) (head .terms) (take (head .ops) ops) ⌝ }
+// The line `ops`, or the first op that fails.
+fn ops_line(asked: Asked, head: Head, codes: &[usize], reals: &[f64]) -> usize
+    requires { ⌜ head .terms ≤ 1024 ⌝ }
+    ensures { λ r. ⌜ r ≡ opsLine (questionOf asked head) (head .terms) (tableOps head (now (codes .entry)) (now (reals .entry))) ⌝ }
 {
     let terms = head.terms;
-    let n = head.ops;
-    let line = first_op(asked, head, ops, n, 8 + terms);
     if ops_fit(asked, head) {
-        return line;
+        return first_op(asked, head, codes, reals, 8 + terms);
     }
     7 + terms
 }
@@ -90,11 +90,17 @@ fn or_else(a: usize, b: usize) -> usize
 }
 
 // The first line of the sheet that fails, or 0.
-pub(crate) fn first_line(asked: Asked, head: Head, s: &[u8], ops: [Op; 4096]) -> usize
-    requires { ⌜ Ready asked head (parts newline (now s)) ops ⌝ }
+pub(crate) fn first_line(
+    asked: Asked,
+    head: Head,
+    s: &[u8],
+    codes: &[usize],
+    reals: &[f64],
+) -> usize
+    requires { ⌜ Ready asked head (parts newline (now s)) (tableOps head (now codes) (now reals)) ⌝ }
     ensures { λ r. ⌜ r ≡ lineOf asked head (parts newline (now (s .entry))) ⌝ }
 {
-    let c = ops_line(asked, head, ops);
+    let c = ops_line(asked, head, codes, reals);
     let b = first_term(asked, head, s);
     let a = head_line(asked, head);
     or_else(a, or_else(b, c))

@@ -1,6 +1,7 @@
 // The run of a sheet that passed the questions.
 ghost use mathlib.Core.Path.{_≡_};
 ghost use Rattle.sheet.specs.Answer.{limitsOf};
+ghost use Rattle.sheet.specs.Asking.{tableOps};
 ghost use Rattle.sheet.specs.Running.{Runnable, Ended, tableRun};
 use layout::Head;
 use runs::Run;
@@ -10,21 +11,22 @@ use runs::observable::run_spd_observable_light_cone;
 use runs::observable::run_spd_weighted_observable_with;
 use turns::Ending;
 use turns::Limits;
-use turns::Op;
 
 // The run that the sheet names, of the lines and ops in a table.
 pub(crate) fn run_table(
     head: Head,
     keys: &[u64],
     weights: &[f64],
-    ops: [Op; 4096],
+    codes: &[usize],
+    reals: &[f64],
     words: &mut [u64],
     coeffs: &mut [f64],
+    index: &mut [u32],
     means: &mut [f64],
 ) -> Ending
-    requires { ⌜ Runnable head (now keys) (now weights) ops (now words) (now coeffs) (now means) ⌝ }
-    ensures { λ r. ⌜ Ended head (tableRun head (now (keys .entry)) (now (weights .entry)) ops) r
-        (now (words .entry)) (now (words .exit)) (now (coeffs .entry)) (now (coeffs .exit)) (now (means .entry)) (now (means .exit)) ⌝ }
+    requires { ⌜ Runnable head (now keys) (now weights) (tableOps head (now codes) (now reals)) (now words) (now coeffs) (now means) ⌝ }
+    ensures { λ r. ⌜ Ended head (tableRun head (now (keys .entry)) (now (weights .entry)) (tableOps head (now (codes .entry)) (now (reals .entry)))) r
+        (now (words .entry)) (now (words .exit)) (now (coeffs .entry)) (now (coeffs .exit)) (now (means .entry)) (now (means .exit)) (now (index .entry)) (now (index .exit)) ⌝ }
 {
     let limits = limits_of(head);
     let q = head.qubits;
@@ -37,34 +39,40 @@ pub(crate) fn run_table(
             keys,
             weights,
             k,
-            ops,
+            codes,
+            reals,
             n,
             limits,
             words,
             coeffs,
+            index,
         ),
         Run::Cone => run_spd_observable_light_cone(
             q,
             keys,
             weights,
             k,
-            ops,
+            codes,
+            reals,
             n,
             limits,
             words,
             coeffs,
+            index,
         ),
-        Run::All => run_spd_lowered(q, ops, n, limits, words, coeffs, means),
+        Run::All => run_spd_lowered(q, codes, reals, n, limits, words, coeffs, index, means),
         Run::Path => run_pauli_path_weighted_observable(
             q,
             keys,
             weights,
             k,
-            ops,
+            codes,
+            reals,
             n,
             limits,
             words,
             coeffs,
+            index,
         ),
     }
 }

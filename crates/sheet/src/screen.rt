@@ -22,8 +22,9 @@ fn sheet_text(s: &[u8], out: &mut [u8]) -> usize
 {
     let mut words = [0u64; 4096];
     let mut coeffs = [0.0f64; 1024];
+    let mut index = [0u32; 1537];
     let mut means = [0.0f64; 256];
-    let reply = answer(s, &mut words, &mut coeffs, &mut means);
+    let reply = answer(s, &mut words, &mut coeffs, &mut index, &mut means);
     printed(reply, &means, out)
 }
 

@@ -3,7 +3,7 @@ ghost use mathlib.Core.Path.{_≡_};
 ghost use Prim.Native.Nat.{_≤_};
 ghost use Rattle.text.specs.Bytes.{parts, newline};
 ghost use Rattle.sheet.specs.Questions.{placesFit, roomVerdict};
-ghost use Rattle.sheet.specs.Asking.{Sound, IsSecond, earlyVerdict, laterVerdict};
+ghost use Rattle.sheet.specs.Asking.{tableOps, Sound, IsSecond, earlyVerdict, laterVerdict};
 use crate::Asked;
 use crate::Verdict;
 use crate::asking::first_line;
@@ -12,7 +12,6 @@ use crate::headtests::ops_fit;
 use layout::Head;
 use layout::laid::first_bad_line;
 use runs::Run;
-use turns::Op;
 
 // Question 2, which asks nothing of a `term` or an `op` line.
 fn second_line(head: Head) -> usize
@@ -78,26 +77,27 @@ fn room_verdict(head: Head, rows: usize, places: usize) -> Verdict
 pub(crate) fn later_verdict(
     s: &[u8],
     head: Head,
-    ops: [Op; 4096],
+    codes: &[usize],
+    reals: &[f64],
     rows: usize,
     places: usize,
 ) -> Verdict
-    requires { ⌜ Sound head (parts newline (now s)) ops ⌝ }
+    requires { ⌜ Sound head (parts newline (now s)) (tableOps head (now codes) (now reals)) ⌝ }
     ensures { λ r. ⌜ r ≡ laterVerdict head (parts newline (now (s .entry))) rows places ⌝ }
 {
-    let c = first_line(Asked::Three, head, s, ops);
+    let c = first_line(Asked::Three, head, s, codes, reals);
     if c != 0 {
         return Verdict::RefusedAt(3, c);
     }
-    let d = first_line(Asked::Four, head, s, ops);
+    let d = first_line(Asked::Four, head, s, codes, reals);
     if d != 0 {
         return Verdict::RefusedAt(4, d);
     }
-    let e = first_line(Asked::Five, head, s, ops);
+    let e = first_line(Asked::Five, head, s, codes, reals);
     if e != 0 {
         return Verdict::RefusedAt(5, e);
     }
-    let f = first_line(Asked::Six, head, s, ops);
+    let f = first_line(Asked::Six, head, s, codes, reals);
     if f != 0 {
         return Verdict::RefusedAt(6, f);
     }

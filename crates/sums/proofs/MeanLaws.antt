@@ -1,13 +1,15 @@
 -- Words that are all 0, one row of the mean, and finite coefficients row by row. Assumes nothing.
 use mathlib.Core.Path.{_≡_, refl, sym, ap, _∙_}
 use mathlib.Core.Bool.{Bool, true, false, cond, _&&_}
-use mathlib.Core.List.{List, []}
+use mathlib.Core.List.{List, [], _∷_}
 use Prim.Native.Nat.{ℕ, zero, suc, _+_, _*_, _/_, _≤_, _<_, zero-le, suc-le-suc}
 use native.Mathlib.Nat.{le-of-suc-le-suc, not-suc-le-zero}
 use native.Mathlib.Omega.{arith}
+use lib.Dec.{eqb}
 use lib.ListN.{length, getD, take, drop, length-drop, List·getD-eq-default}
 use lib.Seq.{length-take-le, getD-take, getD-drop, take-take}
 use lib.Ieee.{Float, nan, binary64, add}
+use borrow.Author.Tests.{eq-eqb, ne-eqb}
 use Rattle.numbers.specs.Tests.{isFinite}
 use Rattle.words.specs.Keys.{allZero, noX}
 use Rattle.terms.specs.declared.Complex64.{Complex64}
@@ -18,9 +20,19 @@ use Rattle.terms.specs.Term.{Term, allFinite}
 use Rattle.terms.proofs.CaseLaws.{and-false}
 use Rattle.rows.specs.Rows.{keyAt, coeffAt, termAt, termsIn}
 use Rattle.sums.specs.Steps.{finiteRows}
-use Rattle.sums.proofs.RowKeys.{zero-differ, zero-all}
 
 -- ---- words that are all 0
+
+zero-differ : (k : List ℕ) (l : ℕ) → (getD k l 0 ≡ 0 → ⊥) → allZero k ≡ false
+unfolding allZero
+zero-differ [] l n = absurd (n refl)
+zero-differ (x ∷ k) zero n = rw (ne-eqb x 0 n)
+zero-differ (x ∷ k) (suc l) n = rw (zero-differ k l n) (and-false (eqb x 0))
+
+zero-all : (k : List ℕ) → ((l : ℕ) → l < length k → getD k l 0 ≡ 0) → allZero k ≡ true
+unfolding allZero
+zero-all [] h = refl
+zero-all (x ∷ k) h = rw (eq-eqb x 0 (h zero (suc-le-suc zero-le))) (zero-all k (λ l b. h (suc l) (suc-le-suc b)))
 
 module _ (ws : List ℕ) (at w : ℕ) where
   pub not-zero : (k : ℕ) → k < w → (getD ws (at + k) 0 ≡ 0 → ⊥) → allZero (take w (drop at ws)) ≡ false

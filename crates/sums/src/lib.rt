@@ -1,8 +1,6 @@
-// A weighted Pauli sum in two lent buffers, the first n rows: its start, gates, truncation, mean.
+// A weighted Pauli sum in two lent buffers, the first n rows: gates, truncation, mean.
 pub mod gates;
-mod lookup;
 pub mod mean;
-pub mod start;
 pub mod truncate;
 
 // What truncation leaves: how many terms, and the sum of the sizes dropped.

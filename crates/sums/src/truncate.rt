@@ -3,12 +3,24 @@ ghost use mathlib.Core.Path.{_≡_};
 ghost use Prim.Native.Nat.{_+_, _*_, _≤_, _<_};
 ghost use lib.ListN.{length};
 ghost use Rattle.terms.specs.Truncation.{keptOf, droppedOf};
-ghost use Rattle.rows.specs.Rows.{termsIn, Room, Holds};
+ghost use Rattle.rows.specs.Rows.{keyAt, coeffAt, termsIn, putKey, putCoeff, Room, Holds};
 ghost use Rattle.sums.specs.Steps.{KeptRow, Truncated};
 use crate::Kept;
-use crate::lookup;
 use rows::clear::clear_rows;
 use rows::row;
+
+// Row i, moved to row k, which is i or before it.
+fn move_row(words: &mut [u64], coeffs: &mut [f64], size: usize, i: usize, k: usize)
+    requires { ⌜ (k ≤ i) × (i * size + size ≤ length (now words)) × (2 * i + 1 < length (now coeffs)) ⌝ }
+    ensures { λ _. ⌜ (now (words .exit) ≡ putKey size (now (words .entry)) k (keyAt size (now (words .entry)) i))
+        × (now (coeffs .exit) ≡ putCoeff (now (coeffs .entry)) k (coeffAt (now (coeffs .entry)) i)) ⌝ }
+{
+    if k < i {
+        row::copy_row(words, size, i, k);
+        let v = row::value_at(coeffs, i);
+        row::store_value(coeffs, k, v);
+    }
+}
 
 // Row i, moved to the end of the rows kept so far, or its size added to what is dropped.
 fn keep_row(
@@ -31,7 +43,7 @@ fn keep_row(
             dropped: kept.dropped + magnitude,
         };
     }
-    lookup::move_row(words, coeffs, size, i, k);
+    move_row(words, coeffs, size, i, k);
     Kept {
         count: k + 1,
         dropped: kept.dropped,

@@ -1,4 +1,5 @@
 -- Laws of ops, turns and runs.
+pub mod OpListLaws
 pub mod ApplyLaws
 pub mod TurnLaws
 pub mod RunLaws

@@ -2,14 +2,14 @@
 use mathlib.Core.Path.{_≡_, refl, sym, ap, ap₂, _∙_}
 use mathlib.Core.Bool.{Bool, true, false, not, _||_, _&&_, cond}
 use mathlib.Core.List.{List, [], _∷_, _++_}
-use Prim.Native.Nat.{ℕ, zero, suc, _+_, _-_, _*_, _/_, _≤_, _<_, min}
+use Prim.Native.Nat.{ℕ, zero, suc, _+_, _-_, _*_, _/_, _≤_, _<_}
 use native.Mathlib.Omega.{arith}
 use native.Mathlib.Nat.{zero-add, le-of-suc-le-suc, not-suc-le-zero}
 use native.Mathlib.Numerals.{add-one}
 use borrow.Author.Tests.{eqb-true, eqb-false, lt-ltb, le-ltb}
 use lib.Dec.{eqb}
-use lib.ListN.{length, getD, set, take, drop, length-take, length-set, drop-of-length-le, replicate}
-use lib.Seq.{drop-cons, take-suc-set, take-all, getD-take, getD-set-same, getD-set-other, drop-length}
+use lib.ListN.{length, getD, set, take, drop, length-set, drop-of-length-le, replicate}
+use lib.Seq.{drop-cons, take-suc-set, take-all, getD-set-same, getD-set-other, drop-length}
 use Rattle.words.specs.declared.Gate.{Gate}
 use Rattle.words.specs.Gates.{hasTwoTargets}
 use Rattle.words.specs.Keys.{Key, bitAt, hasLetter}
@@ -24,18 +24,10 @@ use Rattle.turns.specs.Ops.{shapeOf, targets, isRotation, isBarrier, tCo
 use Rattle.turns.specs.Runs.{markAll, markPath, member, touches, coneOf, markCone}
 use Rattle.turns.specs.Marks.{overlay, packed, listOf, meetsSet, joinSet, grownBy, coneSet, coneMarks, letterIn, lettersIn}
 
--- ---- the first n ops of a list of 4096
 pub getD-past : {A : Type 0} (l : List A) (i : ℕ) (d : A) → length l ≤ i → getD l i d ≡ d
 getD-past [] i d h = refl
 getD-past (x ∷ l) zero d h = absurd (not-suc-le-zero h)
 getD-past (x ∷ l) (suc i) d h = getD-past l i d (le-of-suc-le-suc h)
-
--- the number of the first n ops of 4096, and the op at an index below it
-pub op-count : (n r : ℕ) (ops : List Op) → length ops ≡ 4096 → r ≡ min n 4096 → r ≡ length (take n ops)
-op-count n r ops l e = e ∙ ap (min n) (sym l) ∙ sym (length-take n ops)
-
-pub op-at : (n : ℕ) (ops : List Op) (i : ℕ) (d : Op) → i < length (take n ops) → getD ops i d ≡ getD (take n ops) i d
-op-at n ops i d h = sym (getD-take n ops i d (omega (arith, length-take n ops)))
 
 -- ---- the t count
 pub one-fits : (b : Bool) (v : ℕ) → v ≡ cond b 1 0 → v ≤ 1

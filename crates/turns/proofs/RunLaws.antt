@@ -6,7 +6,7 @@ use Prim.Native.Nat.{ℕ, zero, suc, _-_, _*_, _/_, _≤_, _<_, min}
 use native.Mathlib.Nat.{le-refl}
 use native.Mathlib.Omega.{arith}
 use lib.Dec.{leb}
-use lib.ListN.{length, getD, drop}
+use lib.ListN.{length, getD, drop, replicate}
 use borrow.Author.Tests.{le-leb, leb-true}
 use lib.Seq.{drop-cons}
 use lib.Ieee.{Float}
@@ -162,25 +162,30 @@ ended-count : (s : Stage Outcome) → endCount (endingOf s) ≡ length (leftBy s
 ended-count (refused n) = refl
 ended-count (going o) = refl
 
-module _ (w : ℕ) (l : Limits) (start : Start) (keys : List ℕ) (weights : List Float) (ms : List Bool) (ops : List Op) (ws : List ℕ) (cs : List Float) where
+-- question 7 answered with yes
+pub rows-for : (w limit : ℕ) (ws : List ℕ) (cs : List Float) {r : ℕ} → r ≡ rowsIn w ws cs → limit ≤ r / 2 → 2 * limit ≤ rowsIn w ws cs
+rows-for w limit ws cs e h = leb-true (2 * limit) (rowsIn w ws cs) (twice-yes w limit ws cs e h)
+
+module _ (w : ℕ) (l : Limits) (start : Start) (keys : List ℕ) (weights : List Float) (ms : List Bool) (ops : List Op) (ws : List ℕ) (cs : List Float) (ix : List ℕ) where
   abbrev rows : ℕ
   rows = rowsIn w ws cs
 
-  abbrev Told : Bool → Bool → Ending → List ℕ → List Float → Type 0
-  Told g h r ws′ cs′ = Ran w (g && h) (ask 2 g (ask 7 h (markedRun w l ms ops (startState w keys weights start)))) r ws ws′ cs cs′
+  abbrev Told : Bool → Bool → Ending → List ℕ → List Float → List ℕ → Type 0
+  Told g h r ws′ cs′ ix′ = Ran w (g && h) (ask 2 g (ask 7 h (markedRun w l ms ops (startState w keys weights start)))) r ws ws′ cs cs′ ix ix′
 
-  pub ran-2 : isGiven w (l .limit) keys weights start ≡ false → Ran w (isHeld w l keys weights start rows) (startedRun w l keys weights start ms ops rows) (Failed 2) ws ws cs cs
-  ran-2 g = subst⁻¹ (λ (b : Bool). Told b (leb (2 * l .limit) rows) (Failed 2) ws cs) g (record { answer = refl; words = refl; coeffs = refl; rows = λ e. absurd (false≢true e) })
+  pub ran-2 : isGiven w (l .limit) keys weights start ≡ false → Ran w (isHeld w l keys weights start rows) (startedRun w l keys weights start ms ops rows) (Failed 2) ws ws cs cs ix ix
+  ran-2 g = subst⁻¹ (λ (b : Bool). Told b (leb (2 * l .limit) rows) (Failed 2) ws cs ix) g (record { answer = refl; words = refl; coeffs = refl; index = refl; rows = λ e. absurd (false≢true e) })
 
   pub ran-7 : {r : ℕ} → isGiven w (l .limit) keys weights start ≡ true → r ≡ rows → r / 2 < l .limit
-      → Ran w (isHeld w l keys weights start rows) (startedRun w l keys weights start ms ops rows) (Failed 7) ws ws cs cs
-  ran-7 g e h = subst⁻¹ (λ (b : Bool). Told b (leb (2 * l .limit) rows) (Failed 7) ws cs) g
-      (subst⁻¹ (λ (b : Bool). Told true b (Failed 7) ws cs) (twice-no w (l .limit) ws cs e h) (record { answer = refl; words = refl; coeffs = refl; rows = λ e. absurd (false≢true e) }))
+      → Ran w (isHeld w l keys weights start rows) (startedRun w l keys weights start ms ops rows) (Failed 7) ws ws cs cs ix ix
+  ran-7 g e h = subst⁻¹ (λ (b : Bool). Told b (leb (2 * l .limit) rows) (Failed 7) ws cs ix) g
+      (subst⁻¹ (λ (b : Bool). Told true b (Failed 7) ws cs ix) (twice-no w (l .limit) ws cs e h) (record { answer = refl; words = refl; coeffs = refl; index = refl; rows = λ e. absurd (false≢true e) }))
 
-  pub ran-on : {r : ℕ} {end : Ending} {left : ℕ} {ws′ ws″ : List ℕ} {cs′ cs″ : List Float} → isGiven w (l .limit) keys weights start ≡ true → r ≡ rows → l .limit ≤ r / 2
+  pub ran-on : {r : ℕ} {end : Ending} {left : ℕ} {ws′ ws″ : List ℕ} {cs′ cs″ : List Float} {ix′ : List ℕ} → isGiven w (l .limit) keys weights start ≡ true → r ≡ rows → l .limit ≤ r / 2
       → Ends w l end ws ws′ cs cs′ (markedRun w l ms ops (startState w keys weights start)) → left ≡ endCount end → Cleared w left r ws′ ws″ cs′ cs″
-      → Ran w (isHeld w l keys weights start rows) (startedRun w l keys weights start ms ops rows) end ws ws″ cs cs″
-  ran-on {r} {end} {left} {ws′} {ws″} {cs′} {cs″} g e h E n C =
+      → ix′ ≡ replicate (length ix) 0
+      → Ran w (isHeld w l keys weights start rows) (startedRun w l keys weights start ms ops rows) end ws ws″ cs cs″ ix ix′
+  ran-on {r} {end} {left} {ws′} {ws″} {cs′} {cs″} {ix′} g e h E n C zeros =
       let run : Stage Outcome = markedRun w l ms ops (startState w keys weights start) in
       let yes = twice-yes w (l .limit) ws cs e h in
       let room : 2 * l .limit ≤ rows = leb-true (2 * l .limit) rows yes in
@@ -189,12 +194,13 @@ module _ (w : ℕ) (l : Limits) (start : Start) (keys : List ℕ) (weights : Lis
       let cleared : Cleared w (length (leftBy run)) rows ws′ ws″ cs′ cs″ = subst (λ (k : ℕ). Cleared w k rows ws′ ws″ cs′ cs″) some (subst (λ (k : ℕ). Cleared w left k ws′ ws″ cs′ cs″) e C) in
       let S : Stepped w rows rows 0 (leftBy run) (length (leftBy run)) ws ws″ cs cs″ = stepped-cleared w rows wide 0 (let f = E .few in omega (arith, f, room)) (le-refl rows) cleared in
       let full : leb rows rows ≡ true = le-leb rows rows (le-refl rows) in
-      subst⁻¹ (λ (b : Bool). Told b (leb (2 * l .limit) rows) end ws″ cs″) g
-      (subst⁻¹ (λ (b : Bool). Told true b end ws″ cs″) yes
+      subst⁻¹ (λ (b : Bool). Told b (leb (2 * l .limit) rows) end ws″ cs″ ix′) g
+      (subst⁻¹ (λ (b : Bool). Told true b end ws″ cs″ ix′) yes
       (record {
         answer = E .answer;
         words = S .words ∙ ap (λ (b : Bool). cond b (wordsWith w rows (leftBy run) ws) ws) full;
         coeffs = S .coeffs ∙ ap (λ (b : Bool). cond b (coeffsWith rows (leftBy run) cs) cs) full;
+        index = zeros;
         rows = λ e. step-holds w rows rows 0 S full (le-refl rows) (let f = E .few in omega (arith, f, room))
             (subst (All (Keyed (2 * w))) (E .rows .terms) (keyed-in w (length (leftBy run)) ws′ cs′ (room-less (let f = E .few in omega (arith, f, room)) (held-room (E .rows) (rows-room w rows ws cs (le-refl rows))))));
       }))

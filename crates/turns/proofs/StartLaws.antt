@@ -26,7 +26,7 @@ use Rattle.rows.specs.Rows.{keyAt, termAt, termsIn, rowsIn, wordsWith, coeffsWi
 use Rattle.rows.proofs.RowLaws.{length-key}
 use Rattle.rows.proofs.HoldLaws.{hold-wide}
 use Rattle.rows.proofs.ReadLaws.{Keyed, step-holds}
-use Rattle.sums.specs.Steps.{Started, linesOf}
+use Rattle.branches.specs.Started.{Started, linesOf}
 use Rattle.branches.proofs.RotatedLaws.{terms-width}
 use Rattle.turns.specs.declared.Limits.{Limits}
 use Rattle.turns.specs.declared.Tally.{Tally}

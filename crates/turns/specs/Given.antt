@@ -9,7 +9,7 @@ use Rattle.numbers.specs.Constants.{one64}
 use Rattle.words.specs.Keys.{Key, flipAt, zAt, noLetters}
 use Rattle.terms.specs.Start.{termOf, merged}
 use Rattle.rows.specs.Rows.{keyAt}
-use Rattle.sums.specs.Steps.{linesOf}
+use Rattle.branches.specs.Started.{linesOf}
 use Rattle.turns.specs.declared.Limits.{Limits}
 use Rattle.turns.specs.declared.Op.{Op}
 use Rattle.turns.specs.declared.Start.{Start}

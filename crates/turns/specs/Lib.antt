@@ -1,4 +1,5 @@
 pub mod Ops
+pub mod OpList
 pub mod Turn
 pub mod Runs
 pub mod Given

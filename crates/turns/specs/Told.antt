@@ -3,7 +3,7 @@ use mathlib.Core.Path.{_≡_}
 use mathlib.Core.Bool.{Bool, true, cond, _&&_}
 use mathlib.Core.List.{List, []}
 use Prim.Native.Nat.{ℕ, _*_, _≤_}
-use lib.ListN.{length}
+use lib.ListN.{length, replicate}
 use lib.Ieee.{Float}
 use Rattle.terms.specs.Term.{Term, Distinct}
 use Rattle.numbers.specs.Tests.{isFinite}
@@ -91,11 +91,12 @@ abbrev pub CheckedIn : Limits → ℕ → Tally → List Float → Turned → Ty
 CheckedIn l n t cs r = (w : ℕ) (ws : List ℕ) → r ≡ turnedOf (checked l (stateIn w n t ws cs))
 
 -- answer and all lent memory after a public run. `run` is refused before it starts unless `held`, and then nothing changes; else the rows
--- hold the terms that it leaves, in order, then zeros
-pub record Ran (w : ℕ) (held : Bool) (run : Stage Outcome) (r : Ending) (ws ws′ : List ℕ) (cs cs′ : List Float) : Type 0 where
+-- hold the terms that it leaves, in order, then zeros, and the index zeros
+pub record Ran (w : ℕ) (held : Bool) (run : Stage Outcome) (r : Ending) (ws ws′ : List ℕ) (cs cs′ : List Float) (ix ix′ : List ℕ) : Type 0 where
   pub answer : r ≡ endingOf run
   pub words : ws′ ≡ cond held (wordsWith w (rowsIn w ws cs) (leftBy run) ws) ws
   pub coeffs : cs′ ≡ cond held (coeffsWith (rowsIn w ws cs) (leftBy run) cs) cs
+  pub index : ix′ ≡ cond held (replicate (length ix) 0) ix
   -- the terms read back, and what lies past the rows as it was
   pub rows : held ≡ true → Holds (2 * w) (rowsIn w ws cs) (length (leftBy run)) (leftBy run) ws ws′ cs cs′
 

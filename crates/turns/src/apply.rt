@@ -12,7 +12,7 @@ ghost use Rattle.turns.specs.Ops.{turned, noisy, act};
 ghost use Rattle.turns.specs.Told.{Applied};
 use crate::Op;
 use crate::targets;
-use terms::NoiseChannel;
+use terms::NoiseChannel as Noise;
 use words::Gate;
 
 // A native gate.
@@ -39,6 +39,7 @@ fn apply_gate(
 fn apply_z(
     words: &mut [u64],
     coeffs: &mut [f64],
+    index: &mut [u32],
     w: usize,
     n: usize,
     q: usize,
@@ -50,7 +51,7 @@ fn apply_z(
         (now (words .entry)) (now (words .exit)) (now (coeffs .entry)) (now (coeffs .exit)) ⌝ }
 {
     if targets::has_qubit(w, q) {
-        return branches::rotation::branch_z_rotation(words, coeffs, w, n, q, sin, cos);
+        return branches::rotation::branch_z_rotation(words, coeffs, index, w, n, q, sin, cos);
     }
     n
 }
@@ -59,6 +60,7 @@ fn apply_z(
 fn apply_zz(
     words: &mut [u64],
     coeffs: &mut [f64],
+    index: &mut [u32],
     w: usize,
     n: usize,
     a: usize,
@@ -71,7 +73,7 @@ fn apply_zz(
         (now (words .entry)) (now (words .exit)) (now (coeffs .entry)) (now (coeffs .exit)) ⌝ }
 {
     if targets::has_pair(w, a, b) {
-        return branches::rotation::branch_zz_rotation(words, coeffs, w, n, a, b, sin, cos);
+        return branches::rotation::branch_zz_rotation(words, coeffs, index, w, n, a, b, sin, cos);
     }
     n
 }
@@ -80,10 +82,11 @@ fn apply_zz(
 fn apply_channel(
     words: &mut [u64],
     coeffs: &mut [f64],
+    index: &mut [u32],
     w: usize,
     n: usize,
     q: usize,
-    channel: NoiseChannel,
+    channel: Noise,
 ) -> usize
     requires { ⌜ (2 * n ≤ rowsIn w (now words) (now coeffs)) × Distinct (termsIn (2 * w) n (now words) (now coeffs)) ⌝ }
     ensures { λ r. ⌜ Applied w n (q ∷ []) (noisy w q 0 channel (termsIn (2 * w) n (now (words .entry)) (now (coeffs .entry)))) r
@@ -91,7 +94,7 @@ fn apply_channel(
 {
     if targets::has_qubit(w, q) {
         let action = terms::channels::channel_action(channel);
-        return branches::channels::apply_backward_channel(words, coeffs, w, n, action, q, 0);
+        return branches::channels::apply_backward_channel(words, coeffs, index, w, n, action, q, 0);
     }
     n
 }
@@ -100,11 +103,12 @@ fn apply_channel(
 fn apply_channel2(
     words: &mut [u64],
     coeffs: &mut [f64],
+    index: &mut [u32],
     w: usize,
     n: usize,
     a: usize,
     b: usize,
-    channel: NoiseChannel,
+    channel: Noise,
 ) -> usize
     requires { ⌜ (2 * n ≤ rowsIn w (now words) (now coeffs)) × Distinct (termsIn (2 * w) n (now words) (now coeffs)) ⌝ }
     ensures { λ r. ⌜ Applied w n (a ∷ b ∷ []) (noisy w a b channel (termsIn (2 * w) n (now (words .entry)) (now (coeffs .entry)))) r
@@ -112,7 +116,7 @@ fn apply_channel2(
 {
     if targets::has_pair(w, a, b) {
         let action = terms::channels::channel_action(channel);
-        return branches::channels::apply_backward_channel(words, coeffs, w, n, action, a, b);
+        return branches::channels::apply_backward_channel(words, coeffs, index, w, n, action, a, b);
     }
     n
 }
@@ -135,6 +139,7 @@ pub(crate) fn apply_backward(
     op: Op,
     words: &mut [u64],
     coeffs: &mut [f64],
+    index: &mut [u32],
     w: usize,
     n: usize,
 ) -> usize
@@ -144,38 +149,41 @@ pub(crate) fn apply_backward(
 {
     match op {
         Op::Native(g, a, b) => apply_gate(words, coeffs, w, n, g, a, b),
-        Op::T(q) => apply_z(words, coeffs, w, n, q, sine_t(), cosine_t()),
-        Op::Tdg(q) => apply_z(words, coeffs, w, n, q, -sine_t(), cosine_t()),
-        Op::Rz(q, s, c) => apply_z(words, coeffs, w, n, q, s, c),
-        Op::P(q, s, c) => apply_z(words, coeffs, w, n, q, s, c),
-        Op::Rzz(a, b, s, c) => apply_zz(words, coeffs, w, n, a, b, s, c),
+        Op::T(q) => apply_z(words, coeffs, index, w, n, q, sine_t(), cosine_t()),
+        Op::Tdg(q) => apply_z(words, coeffs, index, w, n, q, -sine_t(), cosine_t()),
+        Op::Rz(q, s, c) => apply_z(words, coeffs, index, w, n, q, s, c),
+        Op::P(q, s, c) => apply_z(words, coeffs, index, w, n, q, s, c),
+        Op::Rzz(a, b, s, c) => apply_zz(words, coeffs, index, w, n, a, b, s, c),
         Op::Pauli(q, x, y, z) => apply_channel(
             words,
             coeffs,
+            index,
             w,
             n,
             q,
-            NoiseChannel::Pauli(x, y, z),
+            Noise::Pauli(x, y, z),
         ),
-        Op::Depol(q, p) => apply_channel(words, coeffs, w, n, q, NoiseChannel::Depolarizing(p)),
-        Op::Damp(q, g) => apply_channel(words, coeffs, w, n, q, NoiseChannel::AmplitudeDamping(g)),
-        Op::Phase(q, g) => apply_channel(words, coeffs, w, n, q, NoiseChannel::PhaseDamping(g)),
+        Op::Depol(q, p) => apply_channel(words, coeffs, index, w, n, q, Noise::Depolarizing(p)),
+        Op::Damp(q, g) => apply_channel(words, coeffs, index, w, n, q, Noise::AmplitudeDamping(g)),
+        Op::Phase(q, g) => apply_channel(words, coeffs, index, w, n, q, Noise::PhaseDamping(g)),
         Op::Thermal(q, d, p, e) => apply_channel(
             words,
             coeffs,
+            index,
             w,
             n,
             q,
-            NoiseChannel::ThermalRelaxation(d, p, e),
+            Noise::ThermalRelaxation(d, p, e),
         ),
         Op::Depol2(a, b, p) => apply_channel2(
             words,
             coeffs,
+            index,
             w,
             n,
             a,
             b,
-            NoiseChannel::TwoQubitDepolarizing(p),
+            Noise::TwoQubitDepolarizing(p),
         ),
         Op::Barrier => n,
     }

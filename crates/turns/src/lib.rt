@@ -55,6 +55,7 @@ pub enum Start {
 mod apply;
 mod finish;
 pub mod marks;
+pub mod oplist;
 pub mod peaks;
 pub mod run;
 mod starts;

@@ -3,11 +3,14 @@ ghost use mathlib.Core.Path.{_≡_};
 ghost use mathlib.Core.Bool.{_||_, true, false, cond, not};
 ghost use mathlib.Core.List.{[], _∷_};
 ghost use Prim.Native.Nat.{min};
-ghost use lib.ListN.{getD, set, take};
+ghost use lib.ListN.{getD, set};
 ghost use Rattle.turns.specs.Ops.{shapeOf, targets, isRotation, isBarrier, tCount};
+ghost use Rattle.turns.specs.OpList.{opList};
 ghost use Rattle.turns.specs.Runs.{markAll, markPath};
 ghost use Rattle.turns.specs.Marks.{overlay, packed, listOf, meetsSet, joinSet, grownBy, coneMarks, letterIn, lettersIn};
 use crate::Op;
+use crate::oplist::op_at;
+use crate::oplist::op_count;
 use crate::targets;
 use words::keys::get_bit;
 
@@ -52,14 +55,14 @@ fn one_if(on: bool) -> usize
 }
 
 // The number of rotations in the first n ops.
-pub fn t_count(ops: [Op; 4096], n: usize) -> usize
-    ensures { λ r. ⌜ r ≡ tCount (take n ops) ⌝ }
+pub fn t_count(codes: &[usize], reals: &[f64], n: usize) -> usize
+    ensures { λ r. ⌜ r ≡ tCount (opList n (now (codes .entry)) (now (reals .entry))) ⌝ }
 {
-    let end = smaller(n, ops.len());
+    let end = op_count(n, codes.len(), reals.len());
     let mut count = 0;
     let mut i = 0;
     while i < end {
-        let op = ops[i];
+        let op = op_at(codes, reals, i);
         count += one_if(is_rotation(op));
         i += 1;
     }
@@ -76,10 +79,10 @@ fn put_mark(marks: &mut [bool], i: usize, m: bool)
 }
 
 // Marks every op, as far as the marks go.
-pub fn full_marks(ops: [Op; 4096], n: usize, marks: &mut [bool])
-    ensures { λ _. ⌜ now (marks .exit) ≡ overlay (markAll (take n ops)) (now (marks .entry)) ⌝ }
+pub fn full_marks(codes: &[usize], reals: &[f64], n: usize, marks: &mut [bool])
+    ensures { λ _. ⌜ now (marks .exit) ≡ overlay (markAll (opList n (now (codes .entry)) (now (reals .entry)))) (now (marks .entry)) ⌝ }
 {
-    let mut i = smaller(n, ops.len());
+    let mut i = op_count(n, codes.len(), reals.len());
     while 0 < i {
         i -= 1;
         put_mark(marks, i, true);
@@ -107,13 +110,13 @@ fn is_no_barrier(op: Op) -> bool
 }
 
 // Marks every op but barriers, as far as the marks go.
-pub fn path_marks(ops: [Op; 4096], n: usize, marks: &mut [bool])
-    ensures { λ _. ⌜ now (marks .exit) ≡ overlay (markPath (take n ops)) (now (marks .entry)) ⌝ }
+pub fn path_marks(codes: &[usize], reals: &[f64], n: usize, marks: &mut [bool])
+    ensures { λ _. ⌜ now (marks .exit) ≡ overlay (markPath (opList n (now (codes .entry)) (now (reals .entry)))) (now (marks .entry)) ⌝ }
 {
-    let mut i = smaller(n, ops.len());
+    let mut i = op_count(n, codes.len(), reals.len());
     while 0 < i {
         i -= 1;
-        let op = ops[i];
+        let op = op_at(codes, reals, i);
         put_mark(marks, i, is_no_barrier(op));
     }
 }
@@ -231,14 +234,21 @@ fn letters_in(w: usize, key: &[u64]) -> [bool; 256]
 
 // Marks the ops in the inverse light cone of a word, as far as the marks go: from the last op back, an op is marked if one of its targets
 // is in the set, and then its targets join the set.
-pub fn inverse_light_cone(ops: [Op; 4096], n: usize, w: usize, key: &[u64], marks: &mut [bool])
-    ensures { λ _. ⌜ now (marks .exit) ≡ overlay (coneMarks (lettersIn w (now (key .entry))) (take n ops)) (now (marks .entry)) ⌝ }
+pub fn inverse_light_cone(
+    codes: &[usize],
+    reals: &[f64],
+    n: usize,
+    w: usize,
+    key: &[u64],
+    marks: &mut [bool],
+)
+    ensures { λ _. ⌜ now (marks .exit) ≡ overlay (coneMarks (lettersIn w (now (key .entry))) (opList n (now (codes .entry)) (now (reals .entry)))) (now (marks .entry)) ⌝ }
 {
     let mut s = letters_in(w, key);
-    let mut i = smaller(n, ops.len());
+    let mut i = op_count(n, codes.len(), reals.len());
     while 0 < i {
         i -= 1;
-        let op = ops[i];
+        let op = op_at(codes, reals, i);
         let t = targets_of(op);
         put_mark(marks, i, meets(t, s));
         let next = grown(t, s);

@@ -1,20 +1,19 @@
 // Runs over the ops that marks set, from the last to the first.
 ghost use mathlib.Core.Path.{_≡_};
-ghost use mathlib.Core.Bool.{true};
-ghost use Prim.Native.Nat.{_*_, _≤_};
-ghost use lib.ListN.{length, take};
 ghost use Rattle.rows.specs.Rows.{rowsIn};
 ghost use Rattle.turns.specs.Turn.{bind};
-ghost use Rattle.turns.specs.Runs.{runs, markedRun};
-ghost use Rattle.turns.specs.Given.{startState, isGiven, isHeld, startedRun};
-ghost use Rattle.turns.specs.Told.{stageIn, countOf, endCount, Ready, Tells, Ends, Ran};
+ghost use Rattle.turns.specs.OpList.{opList};
+ghost use Rattle.turns.specs.Runs.{runs};
+ghost use Rattle.turns.specs.Given.{isHeld, startedRun};
+ghost use Rattle.turns.specs.Told.{stageIn, countOf, endCount, Ready, Tells, Ran};
 use crate::Ending;
 use crate::Limits;
-use crate::Op;
 use crate::Start;
 use crate::Turned;
 use crate::finish;
 use crate::marks::smaller;
+use crate::oplist::op_at;
+use crate::oplist::op_count;
 use crate::starts;
 use crate::turn;
 use rows::clear::clear_rows;
@@ -22,49 +21,29 @@ use rows::row;
 
 // The turns of the first n ops that the marks set.
 fn run_rows(
-    ops: [Op; 4096],
+    codes: &[usize],
+    reals: &[f64],
     n: usize,
     marks: &[bool],
     limits: Limits,
     words: &mut [u64],
     coeffs: &mut [f64],
+    index: &mut [u32],
     w: usize,
     start: Turned,
 ) -> Turned
     requires { ⌜ Ready w limits (countOf start) (now words) (now coeffs) ⌝ }
     ensures { λ r. ⌜ Tells w limits r (now (words .entry)) (now (words .exit)) (now (coeffs .entry)) (now (coeffs .exit))
-        (bind (stageIn w start (now (words .entry)) (now (coeffs .entry))) (runs w limits (now (marks .entry)) (take n ops))) ⌝ }
+        (bind (stageIn w start (now (words .entry)) (now (coeffs .entry))) (runs w limits (now (marks .entry)) (opList n (now (codes .entry)) (now (reals .entry))))) ⌝ }
 {
     let mut at = start;
-    let mut i = smaller(smaller(n, 4096), marks.len());
+    let mut i = smaller(op_count(n, codes.len(), reals.len()), marks.len());
     while 0 < i {
         i -= 1;
-        let op = ops[i];
-        at = turn::step(marks[i], op, limits, words, coeffs, w, at);
+        let op = op_at(codes, reals, i);
+        at = turn::step(marks[i], op, limits, words, coeffs, index, w, at);
     }
     at
-}
-
-// A run from its start to its end, in rows for twice limit.
-fn run_given(
-    start: Start,
-    keys: &[u64],
-    weights: &[f64],
-    ops: [Op; 4096],
-    n: usize,
-    marks: &[bool],
-    limits: Limits,
-    words: &mut [u64],
-    coeffs: &mut [f64],
-    w: usize,
-) -> Ending
-    requires { ⌜ (isGiven w (limits .limit) (now keys) (now weights) start ≡ true) × (2 * limits .limit ≤ rowsIn w (now words) (now coeffs)) ⌝ }
-    ensures { λ r. ⌜ Ends w limits r (now (words .entry)) (now (words .exit)) (now (coeffs .entry)) (now (coeffs .exit))
-        (markedRun w limits (now (marks .entry)) (take n ops) (startState w (now (keys .entry)) (now (weights .entry)) start)) ⌝ }
-{
-    let at = starts::start_rows(start, limits, words, coeffs, w, keys, weights);
-    let last = run_rows(ops, n, marks, limits, words, coeffs, w, at);
-    finish::finish(limits, words, coeffs, w, last)
 }
 
 // The number of terms that a run leaves.
@@ -78,23 +57,25 @@ fn count_left(end: Ending) -> usize
 }
 
 // A run of the first n ops that the marks set, from the last to the first, whatever the rows hold. A start that is not given, or is more
-// than limit terms, is refused with 2, too few rows with 7; then nothing changes. Else the rows hold the final terms in order, then zeros;
-// a run that 8 or 9 refuses leaves zeros.
+// than limit terms, is refused with 2, too few rows with 7; then nothing changes. Else the rows hold the final terms in order, then zeros,
+// and the index zeros; a run that 8 or 9 refuses leaves zeros.
 pub fn run_marked(
     start: Start,
     keys: &[u64],
     weights: &[f64],
-    ops: [Op; 4096],
+    codes: &[usize],
+    reals: &[f64],
     n: usize,
     marks: &[bool],
     limits: Limits,
     words: &mut [u64],
     coeffs: &mut [f64],
+    index: &mut [u32],
     w: usize,
 ) -> Ending
     ensures { λ r. ⌜ Ran w (isHeld w limits (now (keys .entry)) (now (weights .entry)) start (rowsIn w (now (words .entry)) (now (coeffs .entry))))
-        (startedRun w limits (now (keys .entry)) (now (weights .entry)) start (now (marks .entry)) (take n ops) (rowsIn w (now (words .entry)) (now (coeffs .entry))))
-        r (now (words .entry)) (now (words .exit)) (now (coeffs .entry)) (now (coeffs .exit)) ⌝ }
+        (startedRun w limits (now (keys .entry)) (now (weights .entry)) start (now (marks .entry)) (opList n (now (codes .entry)) (now (reals .entry))) (rowsIn w (now (words .entry)) (now (coeffs .entry))))
+        r (now (words .entry)) (now (words .exit)) (now (coeffs .entry)) (now (coeffs .exit)) (now (index .entry)) (now (index .exit)) ⌝ }
 {
     if !starts::is_given(start, limits, w, keys, weights) {
         return Ending::Failed(2);
@@ -103,18 +84,10 @@ pub fn run_marked(
     if rows / 2 < limits.limit {
         return Ending::Failed(7);
     }
-    let end = run_given(
-        start,
-        keys,
-        weights,
-        ops,
-        n,
-        marks,
-        limits,
-        words,
-        coeffs,
-        w,
-    );
+    let at = starts::start_rows(start, limits, words, coeffs, index, w, keys, weights);
+    let last = run_rows(codes, reals, n, marks, limits, words, coeffs, index, w, at);
+    let end = finish::finish(limits, words, coeffs, w, last);
     clear_rows(words, coeffs, w, count_left(end), rows);
+    branches::chains::clear(index);
     end
 }

@@ -7,7 +7,7 @@ ghost use lib.Dec.{leb};
 ghost use Rattle.numbers.specs.Constants.{zero64, one64};
 ghost use Rattle.terms.specs.Start.{termOf};
 ghost use Rattle.rows.specs.Rows.{rowsIn};
-ghost use Rattle.sums.specs.Steps.{Started};
+ghost use Rattle.branches.specs.Started.{Started};
 ghost use Rattle.turns.specs.Turn.{going};
 ghost use Rattle.turns.specs.Told.{tally, Tells};
 ghost use Rattle.turns.specs.Given.{zKey, startState, isGiven};
@@ -63,7 +63,7 @@ fn start_z(words: &mut [u64], coeffs: &mut [f64], w: usize, q: usize) -> usize
 {
     let mut key = [0u64; 8];
     words::keys::flip_bit(&mut key, w, q);
-    sums::start::single_term(words, coeffs, w, &key, 0, 1.0)
+    branches::start::single_term(words, coeffs, w, &key, 0, 1.0)
 }
 
 // The terms of the start, in the first rows.
@@ -72,6 +72,7 @@ pub(crate) fn start_rows(
     limits: Limits,
     words: &mut [u64],
     coeffs: &mut [f64],
+    index: &mut [u32],
     w: usize,
     keys: &[u64],
     weights: &[f64],
@@ -80,8 +81,16 @@ pub(crate) fn start_rows(
     ensures { λ r. ⌜ Tells w limits r (now (words .entry)) (now (words .exit)) (now (coeffs .entry)) (now (coeffs .exit)) (going (startState w (now (keys .entry)) (now (weights .entry)) start)) ⌝ }
 {
     match start {
-        Start::Lines(k) => begun(sums::start::weighted_sum(words, coeffs, w, keys, weights, k)),
-        Start::Alone(i) => begun(sums::start::single_term(words, coeffs, w, keys, i, 1.0)),
+        Start::Lines(k) => begun(branches::start::weighted_sum(
+            words,
+            coeffs,
+            index,
+            w,
+            keys,
+            weights,
+            k,
+        )),
+        Start::Alone(i) => begun(branches::start::single_term(words, coeffs, w, keys, i, 1.0)),
         Start::Z(q, t) => Turned::Going(start_z(words, coeffs, w, q), t),
     }
 }

@@ -119,6 +119,7 @@ fn turn(
     limits: Limits,
     words: &mut [u64],
     coeffs: &mut [f64],
+    index: &mut [u32],
     w: usize,
     n: usize,
     tally: Tally,
@@ -126,7 +127,7 @@ fn turn(
     requires { ⌜ Ready w limits n (now words) (now coeffs) ⌝ }
     ensures { λ r. ⌜ Tells w limits r (now (words .entry)) (now (words .exit)) (now (coeffs .entry)) (now (coeffs .exit)) (turn w limits op (stateIn w n tally (now (words .entry)) (now (coeffs .entry)))) ⌝ }
 {
-    let m = apply::apply_backward(op, words, coeffs, w, n);
+    let m = apply::apply_backward(op, words, coeffs, index, w, n);
     settle(limits, words, coeffs, w, m, tally)
 }
 
@@ -137,6 +138,7 @@ pub(crate) fn step(
     limits: Limits,
     words: &mut [u64],
     coeffs: &mut [f64],
+    index: &mut [u32],
     w: usize,
     at: Turned,
 ) -> Turned
@@ -147,7 +149,7 @@ pub(crate) fn step(
         Turned::Refused(q) => Turned::Refused(q),
         Turned::Going(n, tally) => {
             if mark {
-                turn(op, limits, words, coeffs, w, n, tally)
+                turn(op, limits, words, coeffs, index, w, n, tally)
             } else {
                 Turned::Going(n, tally)
             }

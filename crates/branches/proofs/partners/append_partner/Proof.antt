@@ -8,7 +8,7 @@ use lib.ListN.{length}
 use Rattle.terms.specs.Rotation.{partnerBy}
 use Rattle.rows.proofs.RowLaws.{row-before}
 use Rattle.rows.proofs.RowAccess.{copied-in}
-use Rattle.branches.proofs.ProbeLaws.{appended-key}
+use Rattle.branches.proofs.PartnerLaws.{appended-key}
 use borrow.Author.Needs.{needs}
 use Rattle.branches.proofs.partners.append_partner.Statement.{statement}
 use Rattle.branches.proofs.partners.append_partner.Tie as tie

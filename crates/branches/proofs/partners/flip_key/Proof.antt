@@ -1,6 +1,6 @@
 -- `flip_key` meets its contract. Assumes nothing.
 use denote.Ref.{now}
-use Rattle.branches.proofs.ProbeLaws.{flip-one, flip-two}
+use Rattle.branches.proofs.PartnerLaws.{flip-one, flip-two}
 use borrow.Author.Needs.{needs}
 use Rattle.branches.proofs.partners.flip_key.Statement.{statement}
 use Rattle.branches.proofs.partners.flip_key.Tie as tie

@@ -3,7 +3,8 @@ use Prim.Native.Nat.{_*_}
 use mathlib.Core.Path.{ap, _∙_}
 use denote.Ref.{now}
 use Rattle.terms.specs.Rotation.{partnerBy}
-use Rattle.branches.proofs.ProbeLaws.{part-key, part-put}
+use Rattle.branches.proofs.ProbeLaws.{part-key}
+use Rattle.branches.proofs.PartnerLaws.{part-put}
 use borrow.Author.Needs.{needs}
 use Rattle.branches.proofs.partners.flip_row.Statement.{statement}
 use Rattle.branches.proofs.partners.flip_row.Tie as tie

@@ -4,7 +4,7 @@ use Prim.Native.Nat.{_*_}
 use denote.Ref.{now}
 use Rattle.terms.specs.Rotation.{metBy, partnerBy}
 use Rattle.rows.proofs.HoldLaws.{room-at}
-use Rattle.branches.proofs.ProbeLaws.{partner-length}
+use Rattle.terms.proofs.AxisLaws.{partner-length}
 use Rattle.branches.proofs.RotationRows.{lone-turned, lone-grown}
 use borrow.Author.Needs.{needs}
 use Rattle.branches.proofs.rotation.lone_row.Statement.{statement}

@@ -1,26 +1,28 @@
 -- `fold_line` meets its contract. Assumes nothing.
-use lib.ListN.{take}
+use Prim.Native.Nat.{_+_}
+use native.Mathlib.Omega.{arith}
 use denote.Ref.{now}
+use Rattle.turns.specs.OpList.{opList}
 use Rattle.runs.proofs.FoldLaws.{line-refused, line-added}
 use borrow.Author.Needs.{needs}
 use Rattle.runs.proofs.fold.fold_line.Statement.{statement}
 use Rattle.runs.proofs.fold.fold_line.Tie as tie
 
 returns : tie.Need-returns
-returns c = let s = c .before .before .before .before .before .before .before .before in
+returns c = let s = c .before .before .before .before .before .before .before .before .before .before in
     let a = s .args in
     let p = s .pre in
-    line-refused (a .qubits) (a .limits) (now (a .keys)) (now (a .weights)) (a .lines) (take (a .n) (a .ops)) (now (a .marks)) (a .i) (now (a .words)) (now (a .coeffs)) (a .w) (p .0) (p .1) (p .2) (a .at) _ (c .before .at .given .1)
+    line-refused (a .qubits) (a .limits) (now (a .keys)) (now (a .weights)) (a .i + 1) (opList (a .n) (now (a .codes)) (now (a .reals))) (now (a .marks)) (a .i) (now (a .words)) (now (a .coeffs)) (a .w) (p .0) (omega arith) (p .1) (a .at) _ (c .enum-told .given .1)
 
 returns-2 : tie.Need-returns-2
-returns-2 c = let s = c .before .before .before .before .before .before .before .before .before .before .before .before .before .before .before .before .before in
+returns-2 c = let s = c .before .before .before .before .before .before .before .before .before .before .before .before .before .before .before .before .before .before .before .before .before .before .before in
     let a = s .args in
     let p = s .pre in
-    line-added (a .qubits) (a .limits) (now (a .keys)) (now (a .weights)) (a .lines) (take (a .n) (a .ops)) (now (a .marks)) (a .i) (now (a .words)) (now (a .coeffs)) (a .w) (p .0) (p .1) (p .2) (a .at) _ _ (c .before .before .before .before .before .before .before .before .before .before .at2 .given .1) (c .before .before .before .before .before .run-marked .ensures) (c .before .before .before .before .before .before .before .before .weight-at .ensures) (c .add-line .ensures)
+    line-added (a .qubits) (a .limits) (now (a .keys)) (now (a .weights)) (a .i + 1) (opList (a .n) (now (a .codes)) (now (a .reals))) (now (a .marks)) (a .i) (now (a .words)) (now (a .coeffs)) (a .w) (p .0) (omega arith) (p .1) (a .at) _ _ (c .before .before .before .before .before .before .before .before .before .before .before .before .before .at .given .1) (c .before .before .before .before .before .before .before .before .run-marked .ensures) (c .before .weight-at .ensures) (c .add-line .ensures)
 
 pub fold-line-spec : {M : Type 1} → statement M
 fold-line-spec =
     tie.close
     (tie.spec
-    (λ c. search needs) (λ c. search needs) (λ c κs. search needs) (λ c κs. search needs) (λ c κs. search needs) returns (λ c. search needs)
-    (λ c. search needs) returns-2)
+    (λ c. search needs) (λ c. search needs) returns (λ c κs. search needs) (λ c κs. search needs) (λ c κs. search needs) (λ c. search needs)
+    (λ c. search needs) (λ c. search needs) returns-2)

@@ -1,9 +1,10 @@
 -- `run_spd_observable_light_cone` meets its contract. Assumes nothing.
-use mathlib.Core.Path.{_≡_, _∙_, ap}
+use mathlib.Core.Path.{_∙_, ap}
 use mathlib.Core.Bool.{false}
 use Prim.Native.Nat.{ℕ}
-use lib.ListN.{length, take, replicate, length-replicate}
+use lib.ListN.{replicate}
 use denote.Ref.{now}
+use Rattle.turns.specs.OpList.{opList}
 use Rattle.turns.specs.Marks.{overlay, coneMarks, lettersIn}
 use Rattle.turns.proofs.MarkLaws.{length-cone}
 use Rattle.runs.proofs.ConeCode.{cone-ran}
@@ -13,15 +14,14 @@ use Rattle.runs.proofs.observable.run_spd_observable_light_cone.Stateme
 use Rattle.runs.proofs.observable.run_spd_observable_light_cone.Tie as tie
 
 returns : tie.Need-returns
-returns c = let a = c .before .before .before .before .before .before .before .before .before .before .before .before .before .before .before .before .args in
-    let l : length (a .ops) ≡ 4096 = search needs in
-    cone-ran (a .qubits) (a .limits) (now (a .keys)) (now (a .weights)) (take (a .n) (a .ops)) (a .lines)
-    (sum-marked (a .qubits) (a .limits) (now (a .keys)) (now (a .weights)) (a .lines) (take (a .n) (a .ops)) _ (replicate 4096 false) (length-cone _ (take (a .n) (a .ops))) (few-ops (a .n) (a .ops) (replicate 4096 false) l (length-replicate 4096 false))
-    (c .before .before .before .before .before .before .before .before .before .inverse-light-cone .ensures ∙ ap (λ (w : ℕ). overlay (coneMarks (lettersIn w (now (a .keys))) (take (a .n) (a .ops))) (replicate 4096 false)) (c .before .before .before .before .before .before .before .before .before .before .before .width .ensures)) (c .before .before .before .before .run-sum .ensures))
+returns c = let a = c .before .before .before .before .before .before .before .before .before .before .before .before .before .before .before .before .before .before .before .before .before .before .args in
+    cone-ran (a .qubits) (a .limits) (now (a .keys)) (now (a .weights)) (opList (a .n) (now (a .codes)) (now (a .reals))) (a .lines)
+    (sum-marked (a .qubits) (a .limits) (now (a .keys)) (now (a .weights)) (a .lines) (opList (a .n) (now (a .codes)) (now (a .reals))) _ (replicate 4096 false) (length-cone _ (opList (a .n) (now (a .codes)) (now (a .reals)))) (few-ops (a .n) (now (a .codes)) (now (a .reals)))
+    (c .before .before .before .before .before .before .before .before .before .before .before .before .inverse-light-cone .ensures ∙ ap (λ (w : ℕ). overlay (coneMarks (lettersIn w (now (a .keys))) (opList (a .n) (now (a .codes)) (now (a .reals)))) (replicate 4096 false)) (c .before .before .before .before .before .before .before .before .before .before .before .before .before .before .width .ensures)) (c .before .before .before .before .before .before .run-sum .ensures))
 
 pub run-spd-observable-light-cone-spec : {M : Type 1} → statement M
 run-spd-observable-light-cone-spec =
     tie.close
     (tie.spec
     (λ c κs. search needs) (λ c. search needs) (λ c κs. search needs) (λ c. search needs) (λ c κs. search needs) (λ c. search needs)
-    (λ c. search needs) returns)
+    (λ c. search needs) (λ c. search needs) returns)

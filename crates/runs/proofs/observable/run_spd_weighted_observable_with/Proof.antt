@@ -1,21 +1,21 @@
 -- `run_spd_weighted_observable_with` meets its contract. Assumes nothing.
-use mathlib.Core.Path.{_≡_}
 use mathlib.Core.Bool.{false}
-use lib.ListN.{length, take, replicate, length-replicate}
+use lib.ListN.{replicate}
 use denote.Ref.{now}
+use Rattle.turns.specs.OpList.{opList}
 use Rattle.runs.proofs.SumLaws.{sum-marked, all-long, few-ops}
 use borrow.Author.Needs.{needs}
 use Rattle.runs.proofs.observable.run_spd_weighted_observable_with.Statement.{statement}
 use Rattle.runs.proofs.observable.run_spd_weighted_observable_with.Tie as tie
 
 returns : tie.Need-returns
-returns c = let a = c .before .before .before .before .before .before .before .before .before .before .before .before .before .before .before .args in
-    let l : length (a .ops) ≡ 4096 = search needs in
-    sum-marked (a .qubits) (a .limits) (now (a .keys)) (now (a .weights)) (a .lines) (take (a .n) (a .ops)) _ (replicate 4096 false) (all-long (take (a .n) (a .ops))) (few-ops (a .n) (a .ops) (replicate 4096 false) l (length-replicate 4096 false))
-    (c .before .before .before .before .before .before .before .before .before .full-marks .ensures) (c .before .before .before .before .run-sum .ensures)
+returns c = let a = c .before .before .before .before .before .before .before .before .before .before .before .before .before .before .before .before .before .before .before .before .before .args in
+    sum-marked (a .qubits) (a .limits) (now (a .keys)) (now (a .weights)) (a .lines) (opList (a .n) (now (a .codes)) (now (a .reals))) _ (replicate 4096 false) (all-long (opList (a .n) (now (a .codes)) (now (a .reals)))) (few-ops (a .n) (now (a .codes)) (now (a .reals)))
+    (c .before .before .before .before .before .before .before .before .before .before .before .before .full-marks .ensures) (c .before .before .before .before .before .before .run-sum .ensures)
 
 pub run-spd-weighted-observable-with-spec : {M : Type 1} → statement M
 run-spd-weighted-observable-with-spec =
     tie.close
     (tie.spec
-    (λ c. search needs) (λ c κs. search needs) (λ c. search needs) (λ c κs. search needs) (λ c. search needs) (λ c. search needs) returns)
+    (λ c. search needs) (λ c κs. search needs) (λ c. search needs) (λ c κs. search needs) (λ c. search needs) (λ c. search needs)
+    (λ c. search needs) returns)

@@ -5,25 +5,27 @@ use mathlib.Core.List.{List}
 use Prim.Native.Nat.{ℕ, _-_}
 use native.Mathlib.Omega.{arith}
 use denote.Ref.{now}
-use lib.ListN.{take, replicate, length-replicate, getD-replicate}
+use lib.ListN.{replicate, length-replicate, getD-replicate}
 use borrow.Author.Needs.{needs}
 use Rattle.turns.specs.Marks.{overlay}
-use Rattle.turns.proofs.MarkLaws.{op-count, Marked, marked-none, marked-turn, marked-all, all-marks}
+use Rattle.turns.specs.OpList.{opList}
+use Rattle.turns.proofs.OpListLaws.{op-counted}
+use Rattle.turns.proofs.MarkLaws.{Marked, marked-none, marked-turn, marked-all, all-marks}
 use Rattle.turns.proofs.marks.full_marks.Statement.{statement}
 use Rattle.turns.proofs.marks.full_marks.Tie as tie
 
 abbrev Inv-loop : tie.InvT-loop
-Inv-loop n marks₀ i₀ marks i = Marked (replicate i₀ true) i marks₀ marks
+Inv-loop codes reals n marks₀ i₀ marks i = Marked (replicate i₀ true) i marks₀ marks
 
 abbrev μ-loop : tie.MeasureT-loop
-μ-loop n marks₀ i₀ marks i = i
+μ-loop codes reals n marks₀ i₀ marks i = i
 
 loop-holds : tie.Need-loop-holds Inv-loop μ-loop
-loop-holds c = let i = c .smaller .result in marked-none (replicate i true) i _ (sym (length-replicate i true))
+loop-holds c = let i = c .op-count .result in marked-none (replicate i true) i _ (sym (length-replicate i true))
 
 loop-again : tie.Need-loop-again Inv-loop μ-loop
 loop-again c = let l = c .before .before .before .before .before .loop in
-    let i = c .before .before .before .before .before .before .smaller .result in
+    let i = c .before .before .before .before .before .before .op-count .result in
     let w = l .inv .within in
     marked-turn (l .inv) (l .i - 1) true _ (c .before .before .before .before .loop-test .taken) refl (sym (getD-replicate i (l .i - 1) true false (omega (arith, length-replicate i true)))) (c .before .before .put-mark .ensures)
 
@@ -31,9 +33,9 @@ same-length : tie.Need-same-length Inv-loop μ-loop
 same-length c = c .before .loop .inv .long
 
 returns : tie.Need-returns Inv-loop μ-loop
-returns c = let a = c .before .before .before .before .args in
-    let m = op-count (a .n) _ (a .ops) (search needs) (c .before .before .smaller .ensures) in
-    marked-all (c .before .loop .inv) (c .loop-test .left) ∙ ap (λ (l : List Bool). overlay l (now (a .marks))) (ap (λ (k : ℕ). replicate k true) m ∙ all-marks (take (a .n) (a .ops)))
+returns c = let a = c .before .before .before .before .before .before .args in
+    let m = op-counted (a .n) (now (a .codes)) (now (a .reals)) (c .before .before .op-count .ensures) in
+    marked-all (c .before .loop .inv) (c .loop-test .left) ∙ ap (λ (l : List Bool). overlay l (now (a .marks))) (ap (λ (k : ℕ). replicate k true) m ∙ all-marks (opList (a .n) (now (a .codes)) (now (a .reals))))
 
 pub full-marks-spec : {M : Type 1} → statement M
 full-marks-spec =

@@ -1,39 +1,56 @@
--- `run_marked` meets its contract: refused before it starts, or run and its rows cleared. Assumes nothing.
-use mathlib.Core.Path.{sym, _∙_}
-use Prim.Native.Nat.{_*_}
-use lib.ListN.{take}
-use borrow.Author.Tests.{leb-true, not-true, not-false}
+-- `run_marked` meets its contract: refused before it starts, or run, and its rows and the index cleared. Assumes nothing.
+use mathlib.Core.Path.{sym, ap, _∙_}
+use Prim.Native.Nat.{ℕ}
+use lib.ListN.{replicate}
+use borrow.Author.Tests.{not-true, not-false}
 use denote.Ref.{now}
-use Rattle.rows.proofs.StepLaws.{twice-yes}
-use Rattle.turns.proofs.RunLaws.{ran-2, ran-7, ran-on}
+use Rattle.turns.specs.OpList.{opList}
+use Rattle.turns.proofs.RunLaws.{tells-ready, tells-then, run-ends, rows-for, ran-2, ran-7, ran-on}
 use borrow.Author.Needs.{needs}
 use Rattle.turns.proofs.run.run_marked.Statement.{statement}
 use Rattle.turns.proofs.run.run_marked.Tie as tie
 
 returns : tie.Need-returns
-returns c = let a = c .before .before .before .before .before .before .before .args in
-    ran-2 (a .w) (a .limits) (a .start) (now (a .keys)) (now (a .weights)) (now (a .marks)) (take (a .n) (a .ops)) (now (a .words)) (now (a .coeffs))
+returns c = let a = c .before .before .before .before .before .before .before .before .before .before .args in
+    ran-2 (a .w) (a .limits) (a .start) (now (a .keys)) (now (a .weights)) (now (a .marks)) (opList (a .n) (now (a .codes)) (now (a .reals))) (now (a .words)) (now (a .coeffs)) (now (a .index))
     (sym (c .before .is-given .ensures) ∙ not-true _ (c .if1 .taken))
 
 returns-2 : tie.Need-returns-2
-returns-2 c = let a = c .before .before .before .before .before .before .before .before .before .before .args in
-    ran-7 (a .w) (a .limits) (a .start) (now (a .keys)) (now (a .weights)) (now (a .marks)) (take (a .n) (a .ops)) (now (a .words)) (now (a .coeffs))
+returns-2 c = let a = c .before .before .before .before .before .before .before .before .before .before .before .before .before .args in
+    ran-7 (a .w) (a .limits) (a .start) (now (a .keys)) (now (a .weights)) (now (a .marks)) (opList (a .n) (now (a .codes)) (now (a .reals))) (now (a .words)) (now (a .coeffs)) (now (a .index))
     (sym (c .before .before .before .before .is-given .ensures) ∙ not-false _ (c .before .before .before .if1 .left)) (c .before .before .rows-in .ensures) (c .if2 .taken)
 
-run-given-requires : tie.Need-run-given-requires
-run-given-requires c κs = let a = c .before .before .before .before .before .before .before .before .before .before .before .before .args in (
-  sym (c .before .before .before .before .before .before .is-given .ensures) ∙ not-false _ (c .before .before .before .before .before .if1 .left),
-  leb-true (2 * a .limits .limit) _ (twice-yes (a .w) (a .limits .limit) (now (a .words)) (now (a .coeffs)) (c .before .before .before .before .rows-in .ensures) (c .before .before .if2 .left)),
+start-rows-requires : tie.Need-start-rows-requires
+start-rows-requires c κs = let a = c .before .before .before .before .before .before .before .before .before .before .before .before .before .before .before .before .args in (
+  sym (c .before .before .before .before .before .before .before .is-given .ensures) ∙ not-false _ (c .before .before .before .before .before .before .if1 .left),
+  rows-for (a .w) (a .limits .limit) (now (a .words)) (now (a .coeffs)) (c .before .before .before .before .before .rows-in .ensures) (c .before .before .before .if2 .left),
 )
 
+run-rows-requires : tie.Need-run-rows-requires
+run-rows-requires c κs = let a = c .before .before .before .before .before .before .before .before .before .before .before .before .before .before .before .before .before .before .before .before .before .before .before .before .before .before .args in
+    tells-ready (a .w) (a .limits) _ (rows-for (a .w) (a .limits .limit) (now (a .words)) (now (a .coeffs)) (c .before .before .before .before .before .before .before .before .before .before .before .before .before .before .before .rows-in .ensures) (c .before .before .before .before .before .before .before .before .before .before .before .before .before .if2 .left)) (c .before .before .before .before .before .before .before .before .before .start-rows .ensures)
+
+finish-requires : tie.Need-finish-requires
+finish-requires c κs = let a = c .before .before .before .before .before .before .before .before .before .before .before .before .before .before .before .before .before .before .before .before .before .before .before .before .before .before .before .before .before .before .before .before .before .before .before .args in
+    tells-ready (a .w) (a .limits) _ (rows-for (a .w) (a .limits .limit) (now (a .words)) (now (a .coeffs)) (c .before .before .before .before .before .before .before .before .before .before .before .before .before .before .before .before .before .before .before .before .before .before .before .before .rows-in .ensures) (c .before .before .before .before .before .before .before .before .before .before .before .before .before .before .before .before .before .before .before .before .before .before .if2 .left)) (tells-then (a .w) (a .limits) _ (c .before .before .before .before .before .before .before .before .before .before .before .before .before .before .before .before .before .before .start-rows .ensures) _ (c .before .before .before .before .before .before .before .before .run-rows .ensures))
+
+same-length : tie.Need-same-length
+same-length c = c .before .before .before .before .before .before .before .before .clear-rows .kept .0 ∙ c .before .before .before .before .before .before .before .before .before .before .before .before .before .before .before .before .finish .kept .1 .0 ∙ c .before .before .before .before .before .before .before .before .before .before .before .before .before .before .before .before .before .before .before .before .before .before .before .before .before .run-rows .kept .1 .1 .1 .1 .1 .0 ∙ c .before .before .before .before .before .before .before .before .before .before .before .before .before .before .before .before .before .before .before .before .before .before .before .before .before .before .before .before .before .before .before .before .before .before .before .start-rows .kept .1 .1 .0
+
+same-length-2 : tie.Need-same-length-2
+same-length-2 c = c .before .before .before .before .before .before .before .before .clear-rows .kept .1 .0 ∙ c .before .before .before .before .before .before .before .before .before .before .before .before .before .before .before .before .finish .kept .1 .1 .0 ∙ c .before .before .before .before .before .before .before .before .before .before .before .before .before .before .before .before .before .before .before .before .before .before .before .before .before .run-rows .kept .1 .1 .1 .1 .1 .1 .0 ∙ c .before .before .before .before .before .before .before .before .before .before .before .before .before .before .before .before .before .before .before .before .before .before .before .before .before .before .before .before .before .before .before .before .before .before .before .start-rows .kept .1 .1 .1 .0
+
+same-length-3 : tie.Need-same-length-3
+same-length-3 c = c .before .before .clear .kept .0 ∙ c .before .before .before .before .before .before .before .before .before .before .before .before .before .before .before .before .before .before .before .before .before .before .before .before .before .run-rows .kept .1 .1 .1 .1 .1 .1 .1 .0 ∙ c .before .before .before .before .before .before .before .before .before .before .before .before .before .before .before .before .before .before .before .before .before .before .before .before .before .before .before .before .before .before .before .before .before .before .before .start-rows .kept .1 .1 .1 .1 .0
+
 returns-3 : tie.Need-returns-3
-returns-3 c = let a = c .before .before .before .before .before .before .before .before .before .before .before .before .before .before .before .before .before .before .before .before .before .before .before .before .before .args in
-    ran-on (a .w) (a .limits) (a .start) (now (a .keys)) (now (a .weights)) (now (a .marks)) (take (a .n) (a .ops)) (now (a .words)) (now (a .coeffs))
-    (sym (c .before .before .before .before .before .before .before .before .before .before .before .before .before .before .before .before .before .before .before .is-given .ensures) ∙ not-false _ (c .before .before .before .before .before .before .before .before .before .before .before .before .before .before .before .before .before .before .if1 .left)) (c .before .before .before .before .before .before .before .before .before .before .before .before .before .before .before .before .before .rows-in .ensures) (c .before .before .before .before .before .before .before .before .before .before .before .before .before .before .before .if2 .left) (c .before .before .before .before .before .before .before .before .before .before .before .before .run-given .ensures) (c .before .before .before .before .before .count-left .ensures) (c .before .before .before .before .clear-rows .ensures)
+returns-3 c = let a = c .before .before .before .before .before .before .before .before .before .before .before .before .before .before .before .before .before .before .before .before .before .before .before .before .before .before .before .before .before .before .before .before .before .before .before .before .before .before .before .before .before .before .before .before .before .before .before .before .before .before .before .before .args in
+    ran-on (a .w) (a .limits) (a .start) (now (a .keys)) (now (a .weights)) (now (a .marks)) (opList (a .n) (now (a .codes)) (now (a .reals))) (now (a .words)) (now (a .coeffs)) (now (a .index))
+    (sym (c .before .before .before .before .before .before .before .before .before .before .before .before .before .before .before .before .before .before .before .before .before .before .before .before .before .before .before .before .before .before .before .before .before .before .before .before .before .before .before .before .before .before .before .is-given .ensures) ∙ not-false _ (c .before .before .before .before .before .before .before .before .before .before .before .before .before .before .before .before .before .before .before .before .before .before .before .before .before .before .before .before .before .before .before .before .before .before .before .before .before .before .before .before .before .before .if1 .left)) (c .before .before .before .before .before .before .before .before .before .before .before .before .before .before .before .before .before .before .before .before .before .before .before .before .before .before .before .before .before .before .before .before .before .before .before .before .before .before .before .before .before .rows-in .ensures) (c .before .before .before .before .before .before .before .before .before .before .before .before .before .before .before .before .before .before .before .before .before .before .before .before .before .before .before .before .before .before .before .before .before .before .before .before .before .before .before .if2 .left) (run-ends (a .w) (a .limits) (now (a .marks)) (opList (a .n) (now (a .codes)) (now (a .reals))) _ (c .before .before .before .before .before .before .before .before .before .before .before .before .before .before .before .before .before .before .before .before .before .before .before .before .before .before .before .before .before .before .before .before .before .before .before .start-rows .ensures) (c .before .before .before .before .before .before .before .before .before .before .before .before .before .before .before .before .before .before .before .before .before .before .before .before .before .run-rows .ensures) (c .before .before .before .before .before .before .before .before .before .before .before .before .before .before .before .before .finish .ensures)) (c .before .before .before .before .before .before .before .before .before .count-left .ensures) (c .before .before .before .before .before .before .before .before .clear-rows .ensures) (c .before .before .clear .ensures ∙ ap (λ (m : ℕ). replicate m 0) (c .before .before .before .before .before .before .before .before .before .before .before .before .before .before .before .before .before .before .before .before .before .before .before .before .before .run-rows .kept .1 .1 .1 .1 .1 .1 .1 .0 ∙ c .before .before .before .before .before .before .before .before .before .before .before .before .before .before .before .before .before .before .before .before .before .before .before .before .before .before .before .before .before .before .before .before .before .before .before .start-rows .kept .1 .1 .1 .1 .0))
 
 pub run-marked-spec : {M : Type 1} → statement M
 run-marked-spec =
     tie.close
     (tie.spec
-    (λ c κs. search needs) returns (λ c κs. search needs) returns-2 run-given-requires (λ c κs. search needs) (λ c κs. search needs)
-    (λ c. search needs) (λ c. search needs) returns-3)
+    (λ c κs. search needs) returns (λ c κs. search needs) returns-2 start-rows-requires run-rows-requires finish-requires (λ c κs. search needs)
+    (λ c κs. search needs) (λ c κs. search needs) same-length same-length-2 same-length-3 returns-3)
