@@ -24,8 +24,7 @@ extern "C" {
     ) -> usize;
 }
 
-/// The answer to a sheet in lent buffers of any lengths; gives how many bytes of the text were written. It needs about 2 MB of stack: a thread other
-/// than the main one is made with `std::thread::Builder::stack_size`.
+/// The answer to a sheet in lent buffers of any lengths; gives how many bytes of the text were written. It needs less than 512 KB of stack.
 pub fn answer(
     sheet: &[u8],
     words: &mut [u64],

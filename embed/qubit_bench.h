@@ -2,8 +2,7 @@
  *
  * The function is total: it answers every sheet, of any bytes and any length, with buffers of any lengths. It allocates nothing, keeps no state
  * between calls, opens no file and ends no program. The same sheet and the same lengths give the same text, whatever the buffers held before.
- * It may be called from several threads at once if each has buffers of its own. It needs about 2 MB of stack: the main thread of a Linux program
- * usually has 8, another thread may have to be given more than its usual size.
+ * It may be called from several threads at once if each has buffers of its own. It needs less than 512 KB of stack, which a thread usually has.
  *
  * What the caller sees to: each pointer is not NULL, is aligned for its type and reaches as many elements as its length says (with length 0 none
  * are touched); no buffer overlaps another; and the processor rounds binary64 to nearest and keeps subnormal numbers, as it does unless a program
@@ -45,7 +44,7 @@ extern "C" {
  *            term had to be run alone since all together met `limit`, only zeros. After 8 and 9 all rows are zero. After 1 to 7 they are as
  *            they were. What the buffers hold beyond the last whole row is never touched.
  *
- * index      Work space in which equal words are found quickly. What it holds after the call means nothing.
+ * index      Work space in which equal words are found quickly. After 1 to 7 it is as it was, after a run all zeros.
  * index_len  Any number, 0 too. Shorter than QUBIT_BENCH_INDEX of the sheet's limit: slower, same answer.
  *
  * means      For `run=all`: after status 0 the mean of Z on each qubit, qubit 0 first; after 8 and 9 zero in these places. No place beyond the first

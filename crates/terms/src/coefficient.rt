@@ -1,9 +1,25 @@
 // The methods of a coefficient: each takes it by value and hands back the new one.
 ghost use mathlib.Core.Path.{_≡_};
+ghost use mathlib.Core.Bool.{cond};
+ghost use lib.Ieee.{neg};
 ghost use Rattle.terms.specs.Coefficient.{scaledOf, turnedOf, flippedOf, plusOf, sizeOf, finiteOf};
 use crate::Complex64;
 use numbers::tests::absolute;
 use numbers::tests::is_finite;
+
+// x or y. A choice of two values has no branch in the compiled code, which a quarter turn of many rows would often predict wrongly.
+fn chosen(on: bool, x: f64, y: f64) -> f64
+    ensures { λ r. ⌜ r ≡ cond on x y ⌝ }
+{
+    if on { x } else { y }
+}
+
+// x with its sign changed, or x.
+fn signed(on: bool, x: f64) -> f64
+    ensures { λ r. ⌜ r ≡ cond on (neg x) x ⌝ }
+{
+    if on { -x } else { x }
+}
 
 impl Complex64 {
     // Times a real number.
@@ -21,20 +37,12 @@ impl Complex64 {
         ensures { λ r. ⌜ r ≡ turnedOf quarters self ⌝ }
     {
         let k = quarters % 4;
-        match k {
-            1 => Complex64 {
-                re: -self.im,
-                im: self.re,
-            },
-            2 => Complex64 {
-                re: -self.re,
-                im: -self.im,
-            },
-            3 => Complex64 {
-                re: self.im,
-                im: -self.re,
-            },
-            _ => self,
+        let odd = k % 2 == 1;
+        let a = chosen(odd, self.im, self.re);
+        let b = chosen(odd, self.re, self.im);
+        Complex64 {
+            re: signed((k + 1) % 4 >= 2, a),
+            im: signed(k >= 2, b),
         }
     }
 

@@ -35,7 +35,7 @@ use Rattle.turns.specs.declared.Turned.the-variants.{Going, Refused}
 use Rattle.turns.specs.Ops.{act}
 use Rattle.turns.specs.Turn.{Stage, refused, going, bind, ask, State, state, fine, dropSmall, truncated, counted, checked, settle}
 use Rattle.turns.specs.Runs.{turn, step}
-use Rattle.turns.specs.Told.{tally, turnedOf, termsOf, stateIn, stageIn, countOf, fineIn, CheckedIn, Leaves, Ready, Tells}
+use Rattle.turns.specs.Told.{tally, turnedOf, termsOf, stateIn, stageIn, countOf, fineIn, withinOf, CheckedIn, Leaves, Ready, Tells}
 use Rattle.turns.proofs.ApplyLaws.{act-distinct, act-count, here-width}
 
 -- ---- question 8
@@ -87,19 +87,31 @@ module _ (l : Limits) (n : ℕ) (t : Tally) (cs : List Float) {b : Bool} (q : b 
   unfolding checked
   checked-8 e w ws = rw (sym (fine-in w n t ws cs) ∙ sym q ∙ e)
 
-  pub checked-9 : b ≡ true → l .limit < n → CheckedIn l n t cs (Refused 9)
+  pub checked-fine : {r : Turned} → b ≡ true → r ≡ withinOf l n t → CheckedIn l n t cs r
   unfolding checked
-  checked-9 e h w ws = rw (sym (fine-in w n t ws cs) ∙ sym q ∙ e, long w n t ws cs, lt-leb n (l .limit) h)
+  checked-fine {r} e h w ws = h ∙ sym (ap answered (sym (fine-in w n t ws cs) ∙ sym q ∙ e) ∙ go (leb (length (s .terms)) (l .limit)) ∙ ap at (long w n t ws cs))
+    where
+      s : State
+      s = stateIn w n t ws cs
 
-  pub checked-on : {u : Tally} → b ≡ true → n ≤ l .limit → (u .peak ≡ max (t .peak) n) × (u .discarded ≡ t .discarded) → CheckedIn l n t cs (Going n u)
-  unfolding checked
-  checked-on {u} e h m w ws =
-      let s : State = stateIn w n t ws cs in
-      let k = long w n t ws cs in
-      let f : fine s ≡ true = sym (fine-in w n t ws cs) ∙ sym q ∙ e in
-      let g : leb (length (s .terms)) (l .limit) ≡ true = ap (λ (x : ℕ). leb x (l .limit)) k ∙ le-leb n (l .limit) h in
-      (λ i. Going (sym k i) (tally ((m .0 ∙ ap (max (t .peak)) (sym k)) i) (m .1 i)))
-      ∙ sym (λ i. turnedOf (ask 8 (f i) (ask 9 (g i) (going (counted s)))))
+      at : ℕ → Turned
+      at m = cond (leb m (l .limit)) (Going m (tally (max (t .peak) m) (t .discarded))) (Refused 9)
+
+      answered : Bool → Turned
+      answered x = turnedOf (ask 8 x (ask 9 (leb (length (s .terms)) (l .limit)) (going (counted s))))
+
+      go : (x : Bool) → turnedOf (ask 9 x (going (counted s))) ≡ cond x (Going (length (s .terms)) (tally (max (t .peak) (length (s .terms))) (t .discarded))) (Refused 9)
+      go true = refl
+      go false = refl
+
+-- the answer of `within`
+pub within-9 : (l : Limits) (n : ℕ) (t : Tally) → l .limit < n → Refused 9 ≡ withinOf l n t
+within-9 l n t h = sym (ap (λ (x : Bool). cond x (Going n (tally (max (t .peak) n) (t .discarded))) (Refused 9)) (lt-leb n (l .limit) h))
+
+pub within-on : (l : Limits) (n : ℕ) (t : Tally) {u : Tally} → n ≤ l .limit → (u .peak ≡ max (t .peak) n) × (u .discarded ≡ t .discarded) → Going n u ≡ withinOf l n t
+within-on l n t {u} h m =
+    (λ i. Going n (tally (m .0 i) (m .1 i)))
+    ∙ sym (ap (λ (x : Bool). cond x (Going n (tally (max (t .peak) n) (t .discarded))) (Refused 9)) (le-leb n (l .limit) h))
 
 -- ---- what follows an op
 

@@ -2,7 +2,8 @@
 use mathlib.Core.Path.{_≡_}
 use mathlib.Core.Bool.{Bool, true, cond, _&&_}
 use mathlib.Core.List.{List, []}
-use Prim.Native.Nat.{ℕ, _*_, _≤_}
+use Prim.Native.Nat.{ℕ, _*_, _≤_, max}
+use lib.Dec.{leb}
 use lib.ListN.{length, replicate}
 use lib.Ieee.{Float}
 use Rattle.terms.specs.Term.{Term, Distinct}
@@ -85,6 +86,10 @@ pub record Leaves (w R : ℕ) (r : Left) (ws₀ ws : List ℕ) (cs₀ cs : List 
 -- question 8, of the first n coefficients and a discarded weight
 abbrev pub fineIn : ℕ → Tally → List Float → Bool
 fineIn n t cs = finiteRows n cs && isFinite (t .discarded)
+
+-- question 9, and the peak
+abbrev pub withinOf : Limits → ℕ → Tally → Turned
+withinOf l n t = cond (leb n (l .limit)) (Going n (tally (max (t .peak) n) (t .discarded))) (Refused 9)
 
 -- questions 8 and 9 read no words
 abbrev pub CheckedIn : Limits → ℕ → Tally → List Float → Turned → Type 0

@@ -6,9 +6,9 @@ ghost use lib.Dec.{ltb};
 ghost use lib.ListN.{length};
 ghost use Rattle.terms.specs.Term.{Distinct};
 ghost use Rattle.rows.specs.Rows.{termsIn, rowsIn};
-ghost use Rattle.turns.specs.Turn.{bind, dropSmall, truncated, settle};
+ghost use Rattle.turns.specs.Turn.{bind, dropSmall, settle};
 ghost use Rattle.turns.specs.Runs.{turn, step};
-ghost use Rattle.turns.specs.Told.{stateIn, stageIn, countOf, turnedOf, fineIn, CheckedIn, Leaves, Ready, Tells};
+ghost use Rattle.turns.specs.Told.{stateIn, stageIn, countOf, turnedOf, fineIn, withinOf, CheckedIn, Leaves, Ready, Tells};
 use crate::Limits;
 use crate::Op;
 use crate::Tally;
@@ -63,22 +63,14 @@ fn is_crowded(limits: Limits, n: usize) -> bool
     }
 }
 
-// Truncation, if there are more terms than max_terms.
-fn enforce(
-    limits: Limits,
-    words: &mut [u64],
-    coeffs: &mut [f64],
-    w: usize,
-    n: usize,
-    tally: Tally,
-) -> Left
-    requires { ⌜ n ≤ rowsIn w (now words) (now coeffs) ⌝ }
-    ensures { λ r. ⌜ Leaves w n r (now (words .entry)) (now (words .exit)) (now (coeffs .entry)) (now (coeffs .exit)) (truncated limits (stateIn w n tally (now (words .entry)) (now (coeffs .entry)))) ⌝ }
+// Question 9, and the peak.
+fn within(limits: Limits, n: usize, tally: Tally) -> Turned
+    ensures { λ r. ⌜ r ≡ withinOf limits n tally ⌝ }
 {
-    if is_crowded(limits, n) {
-        return drop_small(words, coeffs, w, n, tally, limits.epsilon);
+    if limits.limit < n {
+        return Turned::Refused(9);
     }
-    Left { count: n, tally }
+    Turned::Going(n, counted(tally, n))
 }
 
 // Questions 8 and 9, and the peak.
@@ -86,15 +78,12 @@ fn checked(limits: Limits, coeffs: &[f64], n: usize, tally: Tally) -> Turned
     ensures { λ r. ⌜ CheckedIn limits n tally (now (coeffs .entry)) r ⌝ }
 {
     if fine(coeffs, n, tally) {
-        if limits.limit < n {
-            return Turned::Refused(9);
-        }
-        return Turned::Going(n, counted(tally, n));
+        return within(limits, n, tally);
     }
     Turned::Refused(8)
 }
 
-// What follows an op.
+// What follows an op. Where nothing is dropped, question 8 has been answered.
 fn settle(
     limits: Limits,
     words: &mut [u64],
@@ -106,11 +95,14 @@ fn settle(
     requires { ⌜ (n ≤ 2 * limits .limit) × (2 * limits .limit ≤ rowsIn w (now words) (now coeffs)) × Distinct (termsIn (2 * w) n (now words) (now coeffs)) ⌝ }
     ensures { λ r. ⌜ Tells w limits r (now (words .entry)) (now (words .exit)) (now (coeffs .entry)) (now (coeffs .exit)) (settle limits (stateIn w n tally (now (words .entry)) (now (coeffs .entry)))) ⌝ }
 {
-    if fine(coeffs, n, tally) {
-        let left = enforce(limits, words, coeffs, w, n, tally);
-        return checked(limits, coeffs, left.count, left.tally);
+    if !fine(coeffs, n, tally) {
+        return Turned::Refused(8);
     }
-    Turned::Refused(8)
+    if !is_crowded(limits, n) {
+        return within(limits, n, tally);
+    }
+    let left = drop_small(words, coeffs, w, n, tally, limits.epsilon);
+    checked(limits, coeffs, left.count, left.tally)
 }
 
 // One op, and what follows it.

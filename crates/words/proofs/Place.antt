@@ -1,15 +1,17 @@
 -- A bit counted from a word of a buffer: what the code of `get_bit` and `flip_bit` computes. Assumes nothing.
 use Prim.Native.Nat.{ℕ, _+_, _*_, _/_, _%_, _^_, _≤_}
-use mathlib.Core.Path.{_≡_, sym, ap, ap₂, _∙_, subst⁻¹}
-use mathlib.Core.Bool.{false}
+use mathlib.Core.Path.{_≡_, refl, sym, ap, ap₂, _∙_, subst⁻¹}
+use mathlib.Core.Bool.{Bool, true, false, cond}
 use mathlib.Core.List.{List}
 use native.Mathlib.Omega.{arith}
 use lib.ListN.{length, getD, set}
 use lib.Dec.{eqb}
-use lib.Bits.{bitXor}
+use lib.Bits.{bitXor, xor-zero-r}
+use lib.Seq.{set-getD}
 use lib.Pow.{shl-exact}
-use native.Mathlib.Nat.{one-mul}
+use native.Mathlib.Nat.{one-mul, zero-mul}
 use Rattle.words.specs.Keys.{bitOf, flipOf, bitAt, flipAt}
+use Rattle.words.specs.Gates.{flipWhen}
 use Rattle.words.proofs.WordLaws.{xor-flip}
 use Rattle.words.proofs.KeyLaws.{flipAt-out, bitAt-past}
 
@@ -36,3 +38,21 @@ module _ (k : List ℕ) (base i : ℕ) where
 
   pub flip-past : length k ≤ base + i / 64 → flipAt k (64 * base + i) ≡ k
   flip-past h = flipAt-out k (64 * base + i) (subst⁻¹ (λ (x : ℕ). length k ≤ x) word h)
+
+  -- a bit flipped by a mask that is 0 where it is not to be flipped
+  pub flip-when-place : (on : Bool) {r : ℕ} → r ≡ cond on 1 0
+      → set k (base + i / 64) (bitXor (getD k (base + i / 64) 0) (r * 2 ^ (i % 64) % 2 ^ 64)) ≡ flipWhen on (64 * base + i) k
+  flip-when-place on {r} e = ap mask e ∙ go on
+    where
+      mask : ℕ → List ℕ
+      mask x = set k (base + i / 64) (bitXor (getD k (base + i / 64) 0) (x * 2 ^ (i % 64) % 2 ^ 64))
+
+      go : (b : Bool) → mask (cond b 1 0) ≡ flipWhen b (64 * base + i) k
+      go true = sym flip-place
+      go false =
+          ap (λ (x : ℕ). set k (base + i / 64) (bitXor (getD k (base + i / 64) 0) (x % 2 ^ 64))) (zero-mul (2 ^ (i % 64)))
+          ∙ ap (set k (base + i / 64)) (xor-zero-r (getD k (base + i / 64) 0)) ∙ set-getD k (base + i / 64) 0
+
+  pub flip-when-past : (on : Bool) → length k ≤ base + i / 64 → k ≡ flipWhen on (64 * base + i) k
+  flip-when-past true h = sym (flip-past h)
+  flip-when-past false h = refl

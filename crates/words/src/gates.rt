@@ -5,7 +5,6 @@ ghost use Prim.Native.Nat.{_+_, _*_};
 ghost use Rattle.words.specs.Gates.{mk, conjBits, conjPhase, bitsAt, flipWhen, moved, conjKey};
 use crate::Bits;
 use crate::Gate;
-use crate::keys::flip_bit;
 use crate::keys::get_bit;
 
 fn four(xa: bool, za: bool, xb: bool, zb: bool) -> Bits
@@ -85,13 +84,26 @@ pub fn read_bits(key: &[u64], w: usize, a: usize, b: usize) -> Bits
     Bits { xa, za, xb, zb }
 }
 
-// Flips a bit where `on` is set.
+fn one_if(on: bool) -> u64
+    ensures { λ r. ⌜ r ≡ cond on 1 0 ⌝ }
+{
+    if on { 1 } else { 0 }
+}
+
+// Flips a bit where `on` is set. It is flipped by a mask and not by a test of `on`, which the processor would often predict wrongly.
 fn flip_when(words: &mut [u64], on: bool, base: usize, i: usize)
     ensures { λ _. ⌜ now (words .exit) ≡ flipWhen on (64 * base + i) (now (words .entry)) ⌝ }
 {
-    if on {
-        flip_bit(words, base, i);
+    let n = words.len();
+    if n <= base {
+        return;
     }
+    let at = i / 64;
+    if n - base <= at {
+        return;
+    }
+    let word = words[base + at];
+    words[base + at] = word ^ (one_if(on) << (i % 64));
 }
 
 // Flips the bits at the targets in which s and t differ.
