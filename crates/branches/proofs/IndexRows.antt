@@ -1,4 +1,4 @@
--- The keys of the rows, and so the index of them, after one row of a rotation and after an appended row. Assumes nothing.
+-- The keys of the rows, and so the table and the index of them, after one row of a rotation and after an appended row. Assumes nothing.
 use mathlib.Core.Path.{_≡_, refl, sym, ap, _∙_, subst}
 use mathlib.Core.Bool.{Bool, true, false, not, cond}
 use mathlib.Core.Logic.{_⊎_, inl, inr, ⊎-elim}
@@ -10,7 +10,7 @@ use lib.ListN.{length, getD, set, length-set, List·getD-append}
 use lib.Seq.{getD-set-same, getD-set-other, set-out}
 use lib.Ieee.{Float}
 use Rattle.numbers.specs.Tests.{isZero}
-use Rattle.words.specs.Keys.{Key, bitAt, flipAt, zAt}
+use Rattle.words.specs.Keys.{Key, bitAt, flipAt, zAt, sameKey}
 use Rattle.terms.specs.declared.Axis.{Axis}
 use Rattle.terms.specs.declared.Complex64.{Complex64}
 use Rattle.terms.specs.declared.Found.{Found}
@@ -23,15 +23,18 @@ use Rattle.terms.specs.Channel.{isZLetter}
 use Rattle.terms.proofs.CaseLaws.{and-true, eq-or-ne, lt-or-le}
 use Rattle.terms.proofs.AxisLaws.{partner-length}
 use Rattle.terms.proofs.ListLaws.{length-tab, getD-tab}
+use Rattle.terms.proofs.FirstLaws.{first-ext}
 use Rattle.rows.specs.Rows.{keyAt, termAt, termsIn, putKey, Holds}
 use Rattle.rows.proofs.RowLaws.{length-key, key-put-other}
 use Rattle.rows.proofs.HoldLaws.{hold-at}
 use Rattle.branches.specs.declared.Sought.{Sought}
-use Rattle.branches.specs.declared.Sought.the-variants.{Partner, Identity}
+use Rattle.branches.specs.declared.Sought.the-variants.{Identity}
 use Rattle.branches.specs.Probe.{files}
 use Rattle.branches.specs.Chains.{Indexed}
-use Rattle.branches.proofs.ProbeLaws.{met-files, identity-files}
-use Rattle.branches.proofs.FileLaws.{index-turned, index-kept}
+use Rattle.branches.specs.Pairs.{partnerRow, Tabled}
+use Rattle.branches.proofs.ProbeLaws.{identity-files}
+use Rattle.branches.proofs.FileLaws.{index-kept}
+use Rattle.branches.proofs.TableLaws.{Shifted, table-moved}
 
 -- the key of a term
 abbrev keyOf : List Term → ℕ → Key
@@ -47,13 +50,17 @@ recoeff ts i k v e j = ⊎-elim
     (λ (n : j ≡ i → ⊥). ap (λ (t : Term). t .key) (getD-set-other ts i j (term k v) noTerm n))
     (eq-or-ne j i)
 
-module _ (met : Key → Bool) (partner : Key → Key) (sin cos : Float) (ts : List Term) where
-  -- a key as it was or, where the cosine is 0, a met one turned into its partner
-  abbrev Moved : List Term → ℕ → Type 0
-  Moved us j = (keyOf us j ≡ keyOf ts j) ⊎ ((isZero cos ≡ true) × ((met (keyOf ts j) ≡ true) × (keyOf us j ≡ partner (keyOf ts j))))
+module _ (met : Key → Bool) (partner : Key → Key) (sin cos : Float) (ts : List Term) (n i : ℕ) where
+  -- row i is met and has no partner
+  abbrev Lone : Type 0
+  Lone = (met (keyOf ts i) ≡ true) × (rowOf n (partner (keyOf ts i)) ts ≡ Nothing)
 
-  pair-keys : (i k j : ℕ) → keyOf (branchPair met partner sin cos i k ts) j ≡ keyOf ts j
-  pair-keys i k j = go (ltb i k)
+  -- a key as it was or, in row i without a partner, turned into the partner's
+  abbrev Moved : List Term → ℕ → Type 0
+  Moved us j = (keyOf us j ≡ keyOf ts j) ⊎ ((j ≡ i) × (Lone × (keyOf us j ≡ partner (keyOf ts j))))
+
+  pair-keys : (k j : ℕ) → keyOf (branchPair met partner sin cos i k ts) j ≡ keyOf ts j
+  pair-keys k j = go (ltb i k)
     where
       t : Term
       t = getD ts i noTerm
@@ -70,8 +77,8 @@ module _ (met : Key → Bool) (partner : Key → Key) (sin cos : Float) (ts : Li
           ∙ recoeff ts i (t .key) (mixed sin cos (t .coeff) (u .coeff)) refl j
       go false = refl
 
-  lone-keys : (i j : ℕ) → met (keyOf ts i) ≡ true → j < length ts → Moved (branchLone met partner sin cos i ts) j
-  lone-keys i j e h = go (isZero cos) refl
+  lone-keys : (j : ℕ) → Lone → j < length ts → Moved (branchLone met partner sin cos i ts) j
+  lone-keys j lone h = go (isZero cos)
     where
       t : Term
       t = getD ts i noTerm
@@ -79,52 +86,57 @@ module _ (met : Key → Bool) (partner : Key → Key) (sin cos : Float) (ts : Li
       f : Term
       f = flippedTerm met partner sin cos t
 
-      turned : isZero cos ≡ true → Moved (set ts i f) j
-      turned z = ⊎-elim
+      turned : Moved (set ts i f) j
+      turned = ⊎-elim
           (λ (q : j ≡ i).
           subst (λ (m : ℕ). Moved (set ts i f) m) (sym q)
-          (inr (z, (e, ap (λ (x : Term). x .key) (getD-set-same ts i f noTerm (subst (λ (m : ℕ). m < length ts) q h))))))
-          (λ (n : j ≡ i → ⊥). inl (ap (λ (x : Term). x .key) (getD-set-other ts i j f noTerm n)))
+          (inr (refl, (lone, ap (λ (x : Term). x .key) (getD-set-same ts i f noTerm (subst (λ (m : ℕ). m < length ts) q h))))))
+          (λ (d : j ≡ i → ⊥). inl (ap (λ (x : Term). x .key) (getD-set-other ts i j f noTerm d)))
           (eq-or-ne j i)
 
-      go : (b : Bool) → isZero cos ≡ b → Moved (cond b (set ts i f) (set ts i (term (t .key) (scaledOf cos (t .coeff))) ++ (f ∷ []))) j
-      go true z = turned z
-      go false z =
+      go : (b : Bool) → Moved (cond b (set ts i f) (set ts i (term (t .key) (scaledOf cos (t .coeff))) ++ (f ∷ []))) j
+      go true = turned
+      go false =
           inl (ap (λ (x : Term). x .key) (List·getD-append (set ts i (term (t .key) (scaledOf cos (t .coeff)))) (f ∷ []) noTerm j (simp length-set h))
           ∙ recoeff ts i (t .key) (scaledOf cos (t .coeff)) refl j)
 
-  row-keys : (n i j : ℕ) → j < length ts → Moved (branchRow met partner sin cos n i ts) j
+  row-keys : (j : ℕ) → j < length ts → Moved (branchRow met partner sin cos n i ts) j
   unfolding branchRow
-  row-keys n i j h = go (met (keyOf ts i)) refl
+  row-keys j h = go (met (keyOf ts i)) refl
     where
-      by : met (keyOf ts i) ≡ true → (f : Found) → Moved (branchBy met partner sin cos i ts f) j
-      by e (At k) = inl (pair-keys i k j)
-      by e Nothing = lone-keys i j e h
+      by : met (keyOf ts i) ≡ true → (f : Found) → rowOf n (partner (keyOf ts i)) ts ≡ f → Moved (branchBy met partner sin cos i ts f) j
+      by e (At k) q = inl (pair-keys k j)
+      by e Nothing q = lone-keys j (e, q) h
 
       go : (b : Bool) → met (keyOf ts i) ≡ b → Moved (cond b (branchBy met partner sin cos i ts (rowOf n (partner (keyOf ts i)) ts)) ts) j
-      go true e = by e (rowOf n (partner (keyOf ts i)) ts)
+      go true e = by e (rowOf n (partner (keyOf ts i)) ts) refl
       go false e = inl refl
 
--- the index of the first n rows, after row i of a rotation
-pub index-rotated : (w : ℕ) (x : Axis) (sin cos : Float) (n m i r buckets : ℕ) (ix ws ws′ : List ℕ) (cs cs′ : List Float) → n ≤ m → m ≤ r
+-- the table of partners, after row i of a rotation
+pub table-rotated : (w : ℕ) (x : Axis) (sin cos : Float) (n m i r buckets : ℕ) (ix ws ws′ : List ℕ) (cs cs′ : List Float) → i < n → n ≤ m → m ≤ r
     → Holds (2 * w) r r (branchRow (metBy x) (partnerBy w x) sin cos n i (termsIn (2 * w) m ws cs)) ws ws′ cs cs′
-    → Indexed (Partner x) (isZero cos) w ws n buckets ix → Indexed (Partner x) (isZero cos) w ws′ n buckets ix
-index-rotated w x sin cos n m i r buckets ix ws ws′ cs cs′ a b H I =
-    index-turned (Partner x) (isZero cos) w n buckets ws ws′ ix (record { turned = λ j h. row j (omega arith) }) I
+    → Tabled x w ws n i buckets ix → Tabled x w ws′ n (i + 1) buckets ix
+table-rotated w x sin cos n m i r buckets ix ws ws′ cs cs′ hi a b H T = record { table = λ p. table-moved x w ws ws′ n i buckets ix hi (T .table p) (λ j h. row j (omega arith)) }
   where
     ts : List Term
     ts = termsIn (2 * w) m ws cs
 
-    row : (j : ℕ) → j < m → (keyAt (2 * w) ws′ j ≡ keyAt (2 * w) ws j)
-        ⊎ ((isZero cos ≡ true) × ((files w (Partner x) (keyAt (2 * w) ws j) ≡ true) × (keyAt (2 * w) ws′ j ≡ partnerBy w x (keyAt (2 * w) ws j))))
+    old : (j : ℕ) → j < m → keyOf ts j ≡ keyAt (2 * w) ws j
+    old j h = ap (λ (t : Term). t .key) (getD-tab m (termAt (2 * w) ws cs) j noTerm h)
+
+    partner-row : rowOf n (partnerBy w x (keyOf ts i)) ts ≡ partnerRow w x ws n i
+    partner-row =
+        first-ext (λ j. sameKey (keyOf ts j) (partnerBy w x (keyOf ts i))) (λ j. sameKey (keyAt (2 * w) ws j) (partnerBy w x (keyAt (2 * w) ws i))) n
+        (λ j h z. sameKey (old j (omega arith) z) (partnerBy w x (old i (omega arith) z)))
+
+    row : (j : ℕ) → j < m → Shifted x w ws ws′ n i j
     row j h =
         let new : keyOf (branchRow (metBy x) (partnerBy w x) sin cos n i ts) j ≡ keyAt (2 * w) ws′ j = ap (λ (t : Term). t .key) (hold-at H j (omega arith)) in
-        let old : keyOf ts j ≡ keyAt (2 * w) ws j = ap (λ (t : Term). t .key) (getD-tab m (termAt (2 * w) ws cs) j noTerm h) in
         let long : j < length ts = subst (λ (l : ℕ). j < l) (sym (length-tab m (termAt (2 * w) ws cs))) h in
         ⊎-elim
-        (λ (e : keyOf (branchRow (metBy x) (partnerBy w x) sin cos n i ts) j ≡ keyOf ts j). inl (sym new ∙ e ∙ old))
-        (λ (e : (isZero cos ≡ true) × ((metBy x (keyOf ts j) ≡ true) × (keyOf (branchRow (metBy x) (partnerBy w x) sin cos n i ts) j ≡ partnerBy w x (keyOf ts j)))).
-        inr (e .0, (met-files w x (keyAt (2 * w) ws j) (sym (ap (metBy x) old) ∙ e .1 .0), sym new ∙ e .1 .1 ∙ ap (partnerBy w x) old)))
+        (λ (e : keyOf (branchRow (metBy x) (partnerBy w x) sin cos n i ts) j ≡ keyOf ts j). inl (sym new ∙ e ∙ old j h))
+        (λ (e : (j ≡ i) × (Lone (metBy x) (partnerBy w x) sin cos ts n i × (keyOf (branchRow (metBy x) (partnerBy w x) sin cos n i ts) j ≡ partnerBy w x (keyOf ts j)))).
+        inr (e .0, ((ap (metBy x) (sym (old i (omega arith))) ∙ e .1 .0 .0, sym partner-row ∙ e .1 .0 .1), sym new ∙ e .1 .1 ∙ ap (partnerBy w x) (old j h))))
         (row-keys (metBy x) (partnerBy w x) sin cos ts n i j long)
 
 -- the word of a row with the letter Z, with z cleared, is one that the index of identity branches has
@@ -132,9 +144,9 @@ pub z-files : (w q : ℕ) (k : Key) → isZLetter w q k ≡ true → files w (Id
 z-files w q k e = identity-files w q k (and-true (not (bitAt k q)) (bitAt k (zAt w q)) e .1)
 
 -- the index of the first m rows, with the partner of row i as row m
-pub index-appended : (s : Sought) (moved : Bool) (w : ℕ) (x : Axis) (i m buckets : ℕ) (ix ws : List ℕ) {vs : List ℕ} → i * (2 * w) + 2 * w ≤ length ws
-    → m * (2 * w) + 2 * w ≤ length ws → vs ≡ putKey (2 * w) ws m (partnerBy w x (keyAt (2 * w) ws i)) → Indexed s moved w ws m buckets ix → Indexed s moved w vs m buckets ix
-index-appended s moved w x i m buckets ix ws {vs} hi hm e I =
+pub index-appended : (s : Sought) (w : ℕ) (x : Axis) (i m buckets : ℕ) (ix ws : List ℕ) {vs : List ℕ} → i * (2 * w) + 2 * w ≤ length ws
+    → m * (2 * w) + 2 * w ≤ length ws → vs ≡ putKey (2 * w) ws m (partnerBy w x (keyAt (2 * w) ws i)) → Indexed s w ws m buckets ix → Indexed s w vs m buckets ix
+index-appended s w x i m buckets ix ws {vs} hi hm e I =
     let whole = partner-length w x (keyAt (2 * w) ws i) ∙ length-key (2 * w) ws i hi in
-    index-kept s moved w m buckets ws vs ix
+    index-kept s w m buckets ws vs ix
     (λ j h. ap (λ (l : List ℕ). keyAt (2 * w) l j) e ∙ key-put-other (2 * w) ws m (partnerBy w x (keyAt (2 * w) ws i)) hm whole j (λ q. omega arith)) I

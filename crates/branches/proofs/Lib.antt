@@ -3,6 +3,8 @@ mod ChainLaws
 mod HashLaws
 mod WalkLaws
 mod FileLaws
+mod PairLaws
+mod TableLaws
 mod PartnerLaws
 mod RotationRows
 pub mod RotatedLaws

@@ -3,8 +3,8 @@ use mathlib.Core.Path.{_≡_, refl, sym, ap, ap₂, _∙_, subst}
 use mathlib.Core.Bool.{Bool, true, false, not, cond, _||_}
 use mathlib.Core.Logic.{⊎-elim}
 use mathlib.Core.List.{List}
-use Prim.Native.Nat.{ℕ, _+_, _-_, _*_, _/_, _%_, _^_, _≤_, _<_}
-use native.Mathlib.Nat.{one-mul, zero-add, add-sub-cancel-left}
+use Prim.Native.Nat.{ℕ, _+_, _-_, _*_, _/_, _%_, _^_, _≤_, _<_, min}
+use native.Mathlib.Nat.{one-mul, zero-add, add-sub-cancel-left, min-comm}
 use native.Mathlib.Omega.{arith}
 use lib.Dec.{ltb}
 use lib.Pow.{shl-exact}
@@ -17,14 +17,17 @@ use Rattle.words.proofs.WordLaws.{xor-flip}
 use Rattle.words.proofs.KeyLaws.{flipAt-length, flipAt-word, flipAt-other-word, flipAt-twice, bitAt-cleared, sameKey-refl, sameKey-differ}
 use Rattle.terms.specs.declared.Axis.{Axis}
 use Rattle.terms.specs.declared.Axis.the-variants.{Z, Zz}
+use Rattle.terms.specs.Lists.{tab}
 use Rattle.terms.specs.Rotation.{metBy, partnerBy, onKey}
 use Rattle.terms.proofs.CaseLaws.{eq-or-ne, lt-or-le}
-use Rattle.terms.proofs.AxisLaws.{partner-back, partner-length, partner-met}
+use Rattle.terms.proofs.AxisLaws.{partner-back, partner-length}
+use Rattle.terms.proofs.ListLaws.{length-tab, getD-tab, tab-ext}
 use Rattle.rows.specs.Rows.{keyAt}
 use Rattle.rows.proofs.RowLaws.{word-at, length-key}
 use Rattle.branches.specs.declared.Sought.{Sought}
 use Rattle.branches.specs.declared.Sought.the-variants.{Same, Partner, Identity}
 use Rattle.branches.specs.Probe.{soughtBy, files, flippedWord, partnerWord, soughtWord}
+use Rattle.branches.specs.Chains.{classOf}
 
 -- ---- one word
 
@@ -83,17 +86,25 @@ sought-back w Same key = refl
 sought-back w (Partner x) key = partner-back w x key
 sought-back w (Identity q) key = flipAt-twice key (zAt w q)
 
--- a met key, and its partner, are in an index of partners
-pub met-files : (w : ℕ) (x : Axis) (k : Key) → metBy x k ≡ true → files w (Partner x) k ≡ true
-met-files w x k e = ap (λ (b : Bool). b || not (onKey w x)) e
+-- the smaller of a word and the word looked for
+abbrev pub classWord : ℕ → Sought → ℕ → ℕ → ℕ
+classWord w s k v = min v (soughtWord w s k v)
 
-pub partner-files : (w : ℕ) (x : Axis) (k : Key) → metBy x k ≡ true → files w (Partner x) (partnerBy w x k) ≡ true
-partner-files w x k e = go (onKey w x) refl (metBy x (partnerBy w x k)) refl
-  where
-    go : (b : Bool) → onKey w x ≡ b → (m : Bool) → metBy x (partnerBy w x k) ≡ m → m || not b ≡ true
-    go b o true p = refl
-    go false o false p = refl
-    go true o false p = sym p ∙ partner-met w x k o ∙ e
+class-length : (w : ℕ) (s : Sought) (key : Key) → length (classOf w s key) ≡ length key
+unfolding classOf
+class-length w s key = length-tab (length key) (λ k. classWord w s k (getD key k 0))
+
+-- it is the smaller of the two for either of them
+pub class-sought : (w : ℕ) (s : Sought) (key : Key) → classOf w s (soughtBy w s key) ≡ classOf w s key
+unfolding classOf
+class-sought w s key =
+    ap (λ (n : ℕ). tab n (λ k. classWord w s k (getD (soughtBy w s key) k 0))) (sought-length w s key)
+    ∙ tab-ext (length key) (λ k. classWord w s k (getD (soughtBy w s key) k 0)) (λ k. classWord w s k (getD key k 0))
+    (λ k h.
+    let there : getD (soughtBy w s key) k 0 ≡ soughtWord w s k (getD key k 0) = sought-word w s key k h in
+    let back : soughtWord w s k (getD (soughtBy w s key) k 0) ≡ getD key k 0 =
+    sym (sought-word w s (soughtBy w s key) k (subst (λ (n : ℕ). k < n) (sym (sought-length w s key)) h)) ∙ ap (λ (l : Key). getD l k 0) (sought-back w s key) in
+    ap₂ min there back ∙ min-comm (soughtWord w s k (getD key k 0)) (getD key k 0))
 
 -- the word with z cleared is in an index of identity branches
 pub identity-files : (w q : ℕ) (k : Key) → bitAt k (zAt w q) ≡ true → files w (Identity q) (flipAt k (zAt w q)) ≡ true
@@ -109,6 +120,15 @@ module _ (w : ℕ) (s : Sought) (ws : List ℕ) (i : ℕ) (hi : i * (2 * w) + 2 
   word k h =
       sought-word w s (keyAt (2 * w) ws i) k (subst (λ (n : ℕ). k < n) (sym (length-key (2 * w) ws i hi)) h)
       ∙ ap (soughtWord w s k) (word-at (2 * w) ws i k h)
+
+  pub class-whole : length (classOf w s (keyAt (2 * w) ws i)) ≡ 2 * w
+  class-whole = class-length w s (keyAt (2 * w) ws i) ∙ length-key (2 * w) ws i hi
+
+  pub class-word : (k : ℕ) → k < 2 * w → getD (classOf w s (keyAt (2 * w) ws i)) k 0 ≡ classWord w s k (getD ws (i * (2 * w) + k) 0)
+  unfolding classOf
+  class-word k h =
+      getD-tab (length (keyAt (2 * w) ws i)) (λ j. classWord w s j (getD (keyAt (2 * w) ws i) j 0)) k 0 (subst (λ (n : ℕ). k < n) (sym (length-key (2 * w) ws i hi)) h)
+      ∙ ap (classWord w s k) (word-at (2 * w) ws i k h)
 
   pub probe-differs : (j k : ℕ) → k < 2 * w → (getD ws (j * (2 * w) + k) 0 ≡ soughtWord w s k (getD ws (i * (2 * w) + k) 0) → ⊥)
       → sameKey (keyAt (2 * w) ws j) (soughtBy w s (keyAt (2 * w) ws i)) ≡ false

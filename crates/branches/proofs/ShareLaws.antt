@@ -200,11 +200,11 @@ module _ (s i m : ℕ) (ws : List ℕ) (cs : List Float) where
 
 -- the index of the first m rows, with another row m
 pub index-shared : (w i m buckets : ℕ) (ix ws : List ℕ) {vs : List ℕ} → m ≤ i → i * (2 * w) + 2 * w ≤ length ws → vs ≡ putKey (2 * w) ws m (keyAt (2 * w) ws i)
-    → Indexed Same false w ws m buckets ix → Indexed Same false w vs m buckets ix
+    → Indexed Same w ws m buckets ix → Indexed Same w vs m buckets ix
 index-shared w i m buckets ix ws {vs} le room e I =
     let before = mul-le-mul-right (2 * w) le in
     let whole = length-key (2 * w) ws i room in
-    index-kept Same false w m buckets ws vs ix
+    index-kept Same w m buckets ws vs ix
     (λ j h. ap (λ (l : List ℕ). keyAt (2 * w) l j) e ∙ key-put-other (2 * w) ws m (keyAt (2 * w) ws i) (omega arith) whole j (λ q. omega arith)) I
 
 -- ---- the public step

@@ -1,18 +1,15 @@
--- The walk down a chain of an index, for rows that pass a test, and two walks together. Assumes nothing.
+-- The walk down a chain of an index, for rows that pass a test. Assumes nothing.
 use mathlib.Core.Path.{_≡_, refl, sym, ap, _∙_, subst}
-use mathlib.Core.Bool.{Bool, true, false, cond, _&&_, _||_}
+use mathlib.Core.Bool.{Bool, true, cond, _&&_}
 use mathlib.Core.List.{List}
-use Prim.Native.Nat.{ℕ, zero, suc, _+_, _-_, _≤_, _<_}
+use Prim.Native.Nat.{ℕ, suc, _+_, _-_, _≤_, _<_}
 use native.Mathlib.Omega.{arith}
-use lib.Dec.{eqb, leb}
+use lib.Dec.{eqb}
 use lib.ListN.{getD}
-use borrow.Author.Tests.{eqb-true, eq-eqb, ne-eqb, le-leb, lt-leb}
-use Rattle.terms.specs.declared.Found.{Found}
-use Rattle.terms.specs.declared.Found.the-variants.{At, Nothing}
-use Rattle.terms.specs.Branch.{first, orAt}
-use Rattle.terms.proofs.CaseLaws.{and-true, leb-iff}
-use Rattle.terms.proofs.FirstLaws.{first-at}
-use Rattle.branches.specs.Chains.{last, Linked, foundOf, soonerOf}
+use borrow.Author.Tests.{eqb-true, eq-eqb}
+use Rattle.terms.specs.Branch.{first}
+use Rattle.terms.proofs.CaseLaws.{and-true}
+use Rattle.branches.specs.Chains.{last, Linked, foundOf}
 use Rattle.branches.proofs.ChainLaws.{last-le, last-is, orFound, search-starts, search-goes}
 
 -- a row of bucket b that passes
@@ -73,45 +70,3 @@ module _ (n buckets : ℕ) (ix : List ℕ) (p : ℕ → Bool) (b : ℕ) (inside 
 pub walk-ends : (f : ℕ → ℕ) (p : ℕ → Bool) (n b at best : ℕ) → Walk f p n b at best → at ≡ 0 → foundOf best ≡ first (inBucket f b p) n
 unfolding first
 walk-ends f p n b at best a e = sym (a .left ∙ ap (λ (m : ℕ). orFound (first (inBucket f b p) m) (foundOf best)) e)
-
--- ---- the sooner of two rows
-
-abbrev pub sooner : Found → Found → Found
-sooner (At i) (At j) = cond (leb i j) (At i) (At j)
-sooner (At i) Nothing = At i
-sooner Nothing g = g
-
-pub sooner-number : (a b : ℕ) → foundOf (soonerOf a b) ≡ sooner (foundOf a) (foundOf b)
-unfolding soonerOf
-sooner-number zero b = refl
-sooner-number (suc a) zero = rw (ne-eqb (suc a) 0 (λ e. omega arith))
-sooner-number (suc a) (suc b) =
-    rw (ne-eqb (suc a) 0 (λ e. omega arith), ne-eqb (suc b) 0 (λ e. omega arith), leb-iff (suc a) (suc b) a b (λ h. omega arith) (λ h. omega arith)) (go (leb a b))
-  where
-    go : (t : Bool) → foundOf (cond t (suc a) (suc b)) ≡ cond t (At a) (At b)
-    go true = refl
-    go false = refl
-
--- the first that passes one of two tests
-pub first-either : (p q : ℕ → Bool) (n : ℕ) → first (λ j. p j || q j) n ≡ sooner (first p n) (first q n)
-unfolding first
-first-either p q zero = refl
-first-either p q (suc n) =
-    ap (λ (g : Found). orAt g (p n || q n) n) (first-either p q n)
-    ∙ go (first p n) (first q n) (p n) (q n) (λ j e. first-at p n j e .0) (λ j e. first-at q n j e .0)
-  where
-    kept : (b : Bool) (i j : ℕ) (t : Bool) → orAt (cond b (At i) (At j)) t n ≡ cond b (At i) (At j)
-    kept true i j t = refl
-    kept false i j t = refl
-
-    go : (f g : Found) (s t : Bool) → ((j : ℕ) → f ≡ At j → j < n) → ((j : ℕ) → g ≡ At j → j < n)
-        → orAt (sooner f g) (s || t) n ≡ sooner (orAt f s n) (orAt g t n)
-    go (At i) (At j) s t h k = kept (leb i j) i j (s || t)
-    go (At i) Nothing s true h k = let b = h i refl in sym (ap (λ (c : Bool). cond c (At i) (At n)) (le-leb i n (omega arith)))
-    go (At i) Nothing s false h k = refl
-    go Nothing (At j) true t h k = let b = k j refl in sym (ap (λ (c : Bool). cond c (At n) (At j)) (lt-leb n j b))
-    go Nothing (At j) false t h k = refl
-    go Nothing Nothing true true h k = sym (ap (λ (c : Bool). cond c (At n) (At n)) (le-leb n n (omega arith)))
-    go Nothing Nothing true false h k = refl
-    go Nothing Nothing false true h k = refl
-    go Nothing Nothing false false h k = refl

@@ -1,18 +1,18 @@
 -- An index of rows by their keys: a number for each bucket, then one for each row. Each is one more than a row, and 0 ends a chain.
 use mathlib.Core.Path.{_≡_}
-use mathlib.Core.Logic.{_⊎_}
-use Prim.Native.Nat.{ℕ, zero, suc, _+_, _*_, _/_, _%_, _≤_, _<_}
-use mathlib.Core.Bool.{Bool, true, cond, _&&_}
+use Prim.Native.Nat.{ℕ, zero, suc, _+_, _*_, _/_, _%_, _≤_, _<_, min}
+use mathlib.Core.Bool.{true, cond, _&&_}
 use mathlib.Core.List.{List, [], _∷_}
 use lib.ListN.{length, getD, set}
-use lib.Dec.{eqb, leb}
+use lib.Dec.{eqb}
 use Rattle.words.specs.Keys.{Key, sameKey}
 use Rattle.terms.specs.declared.Found.{Found}
 use Rattle.terms.specs.declared.Found.the-variants.{At, Nothing}
 use Rattle.terms.specs.Branch.{first}
+use Rattle.terms.specs.Lists.{tab}
 use Rattle.rows.specs.Rows.{keyAt}
 use Rattle.branches.specs.declared.Sought.{Sought}
-use Rattle.branches.specs.Probe.{soughtBy, files}
+use Rattle.branches.specs.Probe.{soughtBy, files, soughtWord}
 
 -- ---- the hash
 
@@ -27,7 +27,11 @@ hashed h (v ∷ k) = hashed (mixed h v) k
 unfoldable pub spread : ℕ → ℕ → ℕ
 spread h buckets = (h / 4294967296 + h % 4294967296) % 4294967296 * buckets / 4294967296
 
--- the bucket of a key
+-- A key and the key looked for from it are hashed alike: of each word and the word looked for, by the smaller.
+unfoldable pub classOf : ℕ → Sought → Key → Key
+classOf w s k = tab (length k) (λ i. min (getD k i 0) (soughtWord w s i (getD k i 0)))
+
+-- the bucket of what is hashed
 unfoldable pub bucketOf : ℕ → Key → ℕ
 bucketOf buckets k = spread (hashed 0 k) buckets
 
@@ -57,16 +61,14 @@ pushed m buckets b ix = set (set ix (buckets + m) (getD ix b 0)) b (m + 1)
 
 -- ---- the index
 
--- A row that files is in the bucket of its key. While rows are turned into what is looked for from them, it may also be in the bucket of
--- what is looked for from it now.
-pub record Filed (s : Sought) (moved : Bool) (w : ℕ) (ws : List ℕ) (n buckets : ℕ) (ix : List ℕ) : Type 0 where
+-- a row that files is in the bucket of its key
+pub record Filed (s : Sought) (w : ℕ) (ws : List ℕ) (n buckets : ℕ) (ix : List ℕ) : Type 0 where
   pub links : Linked n buckets ix
-  pub filed : (j : ℕ) → j < n → files w s (keyAt (2 * w) ws j) ≡ true
-      → (links .place j ≡ bucketOf buckets (keyAt (2 * w) ws j)) ⊎ ((moved ≡ true) × (links .place j ≡ bucketOf buckets (soughtBy w s (keyAt (2 * w) ws j))))
+  pub filed : (j : ℕ) → j < n → files w s (keyAt (2 * w) ws j) ≡ true → links .place j ≡ bucketOf buckets (classOf w s (keyAt (2 * w) ws j))
 
 -- ix is an index of the first n rows, if it has buckets at all; all that it holds besides is free
-pub record Indexed (s : Sought) (moved : Bool) (w : ℕ) (ws : List ℕ) (n buckets : ℕ) (ix : List ℕ) : Type 0 where
-  pub index : 0 < buckets → Filed s moved w ws n buckets ix
+pub record Indexed (s : Sought) (w : ℕ) (ws : List ℕ) (n buckets : ℕ) (ix : List ℕ) : Type 0 where
+  pub index : 0 < buckets → Filed s w ws n buckets ix
 
 -- so many buckets leave room for n rows
 pub record Spare (n buckets long : ℕ) : Type 0 where
@@ -80,10 +82,6 @@ pub record Spare (n buckets long : ℕ) : Type 0 where
 abbrev pub foundOf : ℕ → Found
 foundOf zero = Nothing
 foundOf (suc i) = At i
-
--- the smaller of two such numbers, of those that are not 0
-unfoldable pub soonerOf : ℕ → ℕ → ℕ
-soonerOf a b = cond (eqb a 0) b (cond (eqb b 0) a (cond (leb a b) a b))
 
 -- r is the first row of bucket b that has the key looked for from row i
 pub record Walked (s : Sought) (w : ℕ) (ws : List ℕ) (n buckets : ℕ) (ix : List ℕ) (i b r : ℕ) : Type 0 where

@@ -2,4 +2,5 @@ pub mod Rotated
 pub mod Letters
 pub mod Probe
 pub mod Chains
+pub mod Pairs
 pub mod Started

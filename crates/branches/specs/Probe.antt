@@ -1,11 +1,11 @@
 -- What is looked for from a row: as a key, and word by word.
 use Prim.Native.Nat.{ℕ, _/_, _%_}
-use mathlib.Core.Bool.{Bool, true, not, cond, _||_}
+use mathlib.Core.Bool.{Bool, true, not, cond}
 use lib.Dec.{eqb}
 use Rattle.words.specs.Keys.{Key, bitAt, flipOf, flipAt, zAt}
 use Rattle.terms.specs.declared.Axis.{Axis}
 use Rattle.terms.specs.declared.Axis.the-variants.{Z, Zz}
-use Rattle.terms.specs.Rotation.{metBy, partnerBy, onKey}
+use Rattle.terms.specs.Rotation.{partnerBy}
 use Rattle.branches.specs.declared.Sought.{Sought}
 use Rattle.branches.specs.declared.Sought.the-variants.{Same, Partner, Identity}
 
@@ -15,11 +15,10 @@ soughtBy w Same k = k
 soughtBy w (Partner x) k = partnerBy w x k
 soughtBy w (Identity q) k = flipAt k (zAt w q)
 
--- Which keys the index has: every one that is looked for from a row that seeks one. Of a rotation these are the met ones, at targets that
--- the words have; of identity branches those with z clear.
+-- Which keys the index has: every one that is looked for from a row that seeks one. Of identity branches these are the ones with z clear.
 abbrev pub files : ℕ → Sought → Key → Bool
 files w Same k = true
-files w (Partner x) k = metBy x k || not (onKey w x)
+files w (Partner x) k = true
 files w (Identity q) k = not (bitAt k (zAt w q))
 
 -- word k of a key whose word k was v, after z of qubit q is flipped

@@ -1,20 +1,20 @@
 // The index: chains of rows, one to a bucket of a hash of their keys. A bucket's number is one more than the last row of its chain, a
 // row's number one more than the row before it there; 0 ends a chain.
 ghost use mathlib.Core.Path.{_≡_};
-ghost use mathlib.Core.Bool.{true, false, cond};
-ghost use Prim.Native.Nat.{_+_, _*_, _≤_, _<_};
+ghost use mathlib.Core.Bool.{true, cond};
+ghost use Prim.Native.Nat.{_+_, _*_, _≤_, _<_, min};
 ghost use lib.ListN.{length, replicate};
 ghost use Rattle.words.specs.Keys.{sameKey};
 ghost use Rattle.terms.specs.Branch.{first};
 ghost use Rattle.rows.specs.Rows.{keyAt};
 ghost use Rattle.rows.specs.Cleared.{filled};
 ghost use Rattle.branches.specs.Probe.{soughtBy, files};
-ghost use Rattle.branches.specs.Chains.{mixed, spread, bucketOf, pushed, foundOf, soonerOf, Linked, Filed, Indexed, Spare, Walked};
+ghost use Rattle.branches.specs.Chains.{mixed, spread, classOf, bucketOf, pushed, foundOf, Linked, Filed, Indexed, Spare, Walked};
 use crate::Sought;
 use crate::probe;
 use terms::Found;
 
-fn wide(x: u32) -> usize
+pub(crate) fn wide(x: u32) -> usize
     ensures { λ r. ⌜ r ≡ x ⌝ }
 {
     x as usize
@@ -37,10 +37,22 @@ fn bucket(h: u64, buckets: usize) -> usize
     low as usize * buckets / 4294967296
 }
 
-// The bucket of the key looked for from a row.
-fn bucket_of(words: &[u64], w: usize, row: usize, sought: Sought, buckets: usize) -> usize
+fn smaller(a: u64, b: u64) -> u64
+    ensures { λ r. ⌜ r ≡ min a b ⌝ }
+{
+    if a <= b { a } else { b }
+}
+
+// The bucket of a row's key. It is that of the key looked for from the row too: of each word and the word looked for the smaller is hashed.
+pub(crate) fn bucket_of(
+    words: &[u64],
+    w: usize,
+    row: usize,
+    sought: Sought,
+    buckets: usize,
+) -> usize
     requires { ⌜ (0 < buckets) × ((buckets < 4294967296) × (row * (2 * w) + 2 * w ≤ length (now words))) ⌝ }
-    ensures { λ r. ⌜ (r ≡ bucketOf buckets (soughtBy w sought (keyAt (2 * w) (now (words .entry)) row))) × (r < buckets) ⌝ }
+    ensures { λ r. ⌜ (r ≡ bucketOf buckets (classOf w sought (keyAt (2 * w) (now (words .entry)) row))) × (r < buckets) ⌝ }
 {
     let size = 2 * w;
     let a = row * size;
@@ -48,7 +60,8 @@ fn bucket_of(words: &[u64], w: usize, row: usize, sought: Sought, buckets: usize
     let mut k = 0;
     while k < size {
         let v = words[a + k];
-        h = mix(h, probe::sought_word(v, k, w, sought));
+        let u = probe::sought_word(v, k, w, sought);
+        h = mix(h, smaller(v, u));
         k += 1;
     }
     bucket(h, buckets)
@@ -61,7 +74,7 @@ fn either(taken: bool, a: usize, b: usize) -> usize
 }
 
 // One more than the first row of a chain that has the key looked for from row i, or 0.
-fn walk(
+pub(crate) fn walk(
     words: &[u64],
     w: usize,
     n: usize,
@@ -86,18 +99,6 @@ fn walk(
     best
 }
 
-fn sooner(a: usize, b: usize) -> usize
-    ensures { λ r. ⌜ r ≡ soonerOf a b ⌝ }
-{
-    if a == 0 {
-        return b;
-    }
-    if b == 0 {
-        return a;
-    }
-    if a <= b { a } else { b }
-}
-
 fn found(n: usize) -> Found
     ensures { λ r. ⌜ r ≡ foundOf n ⌝ }
 {
@@ -107,8 +108,7 @@ fn found(n: usize) -> Found
     Found::At(n - 1)
 }
 
-// The search by the index. A row that was turned into what is looked for from it is in the bucket of its old key, which is what is looked
-// for from the new one: the bucket of row i's own key.
+// The search by the index.
 fn find_filed(
     words: &[u64],
     w: usize,
@@ -116,25 +116,17 @@ fn find_filed(
     index: &[u32],
     buckets: usize,
     sought: Sought,
-    moved: bool,
     i: usize,
 ) -> Found
     requires { ⌜ (n * (2 * w) ≤ length (now words)) × ((i * (2 * w) + 2 * w ≤ length (now words))
-        × ((files w sought (soughtBy w sought (keyAt (2 * w) (now words) i)) ≡ true) × Filed sought moved w (now words) n buckets (now index))) ⌝ }
+        × ((files w sought (soughtBy w sought (keyAt (2 * w) (now words) i)) ≡ true) × Filed sought w (now words) n buckets (now index))) ⌝ }
     ensures { λ r. ⌜ r ≡ first (λ j. sameKey (keyAt (2 * w) (now (words .entry)) j) (soughtBy w sought (keyAt (2 * w) (now (words .entry)) i))) n ⌝ }
 {
     let b = bucket_of(words, w, i, sought, buckets);
-    let best = walk(words, w, n, index, buckets, sought, i, b);
-    if moved {
-        let own = bucket_of(words, w, i, Sought::Same, buckets);
-        let other = walk(words, w, n, index, buckets, sought, i, own);
-        return found(sooner(best, other));
-    }
-    found(best)
+    found(walk(words, w, n, index, buckets, sought, i, b))
 }
 
-// The first row below n that has the key looked for from row i: by the index, or by a scan if it has no buckets. `moved` says whether rows
-// may have been turned into what is looked for from them since the index was built.
+// The first row below n that has the key looked for from row i: by the index, or by a scan if it has no buckets.
 pub(crate) fn find(
     words: &[u64],
     w: usize,
@@ -142,25 +134,23 @@ pub(crate) fn find(
     index: &[u32],
     buckets: usize,
     sought: Sought,
-    moved: bool,
     i: usize,
 ) -> Found
     requires { ⌜ (n * (2 * w) ≤ length (now words)) × ((i * (2 * w) + 2 * w ≤ length (now words))
-        × ((files w sought (soughtBy w sought (keyAt (2 * w) (now words) i)) ≡ true) × Indexed sought moved w (now words) n buckets (now index))) ⌝ }
+        × ((files w sought (soughtBy w sought (keyAt (2 * w) (now words) i)) ≡ true) × Indexed sought w (now words) n buckets (now index))) ⌝ }
     ensures { λ r. ⌜ r ≡ first (λ j. sameKey (keyAt (2 * w) (now (words .entry)) j) (soughtBy w sought (keyAt (2 * w) (now (words .entry)) i))) n ⌝ }
 {
     if buckets == 0 {
         return probe::scan(words, w, n, sought, i);
     }
-    find_filed(words, w, n, index, buckets, sought, moved, i)
+    find_filed(words, w, n, index, buckets, sought, i)
 }
 
-// Puts row m in front of its bucket's chain.
-fn link(words: &[u64], w: usize, m: usize, index: &mut [u32], buckets: usize)
-    requires { ⌜ (m * (2 * w) + 2 * w ≤ length (now words)) × ((m + 1 < 4294967296) × ((buckets + m < length (now index)) × ((0 < buckets) × (buckets < 4294967296)))) ⌝ }
-    ensures { λ _. ⌜ now (index .exit) ≡ pushed m buckets (bucketOf buckets (keyAt (2 * w) (now (words .entry)) m)) (now (index .entry)) ⌝ }
+// Puts row m in front of a bucket's chain.
+pub(crate) fn link(m: usize, index: &mut [u32], buckets: usize, b: usize)
+    requires { ⌜ (m + 1 < 4294967296) × ((buckets + m < length (now index)) × (b < buckets)) ⌝ }
+    ensures { λ _. ⌜ now (index .exit) ≡ pushed m buckets b (now (index .entry)) ⌝ }
 {
-    let b = bucket_of(words, w, m, Sought::Same, buckets);
     let at = buckets + m;
     let head = index[b];
     index[at] = head;
@@ -176,18 +166,19 @@ pub(crate) fn push(
     index: &mut [u32],
     buckets: usize,
 )
-    requires { ⌜ (m * (2 * w) + 2 * w ≤ length (now words)) × (Spare (m + 1) buckets (length (now index)) × Indexed sought false w (now words) m buckets (now index)) ⌝ }
-    ensures { λ _. ⌜ Indexed sought false w (now (words .entry)) (m + 1) buckets (now (index .exit)) ⌝ }
+    requires { ⌜ (m * (2 * w) + 2 * w ≤ length (now words)) × (Spare (m + 1) buckets (length (now index)) × Indexed sought w (now words) m buckets (now index)) ⌝ }
+    ensures { λ _. ⌜ Indexed sought w (now (words .entry)) (m + 1) buckets (now (index .exit)) ⌝ }
 {
     if buckets == 0 {
         return;
     }
     if probe::row_files(words, w, m, sought) {
-        link(words, w, m, index, buckets);
+        let b = bucket_of(words, w, m, sought, buckets);
+        link(m, index, buckets, b);
     }
 }
 
-fn clear_to(index: &mut [u32], n: usize)
+pub(crate) fn clear_to(index: &mut [u32], n: usize)
     requires { ⌜ n ≤ length (now index) ⌝ }
     ensures { λ _. ⌜ now (index .exit) ≡ filled 0 0 n (now (index .entry)) ⌝ }
 {
@@ -231,7 +222,7 @@ pub(crate) fn build(
     index: &mut [u32],
 ) -> usize
     requires { ⌜ (n * (2 * w) ≤ length (now words)) × (n ≤ cap) ⌝ }
-    ensures { λ r. ⌜ Indexed sought false w (now (words .entry)) n r (now (index .exit)) × Spare cap r (length (now (index .entry))) ⌝ }
+    ensures { λ r. ⌜ Indexed sought w (now (words .entry)) n r (now (index .exit)) × Spare cap r (length (now (index .entry))) ⌝ }
 {
     let buckets = buckets_for(index.len(), cap);
     if buckets == 0 {

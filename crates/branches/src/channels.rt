@@ -96,13 +96,13 @@ fn insert_identity(
     d: Complex64,
 ) -> usize
     requires { ⌜ (i < m) × Room (2 * w) (m + 1) (now words) (now coeffs) × (isZLetter w q (keyAt (2 * w) (now words) i) ≡ true)
-        × Spare (m + 1) buckets (length (now index)) × Indexed (Identity q) false w (now words) m buckets (now index) ⌝ }
+        × Spare (m + 1) buckets (length (now index)) × Indexed (Identity q) w (now words) m buckets (now index) ⌝ }
     ensures { λ r. ⌜ (m ≤ r) × (r ≤ m + 1) × Holds (2 * w) r r
         (insert (termsIn (2 * w) m (now (words .entry)) (now (coeffs .entry))) (term (flipAt (keyAt (2 * w) (now (words .entry)) i) (zAt w q)) d))
         (now (words .entry)) (now (words .exit)) (now (coeffs .entry)) (now (coeffs .exit))
-        × Indexed (Identity q) false w (now (words .exit)) r buckets (now (index .exit)) ⌝ }
+        × Indexed (Identity q) w (now (words .exit)) r buckets (now (index .exit)) ⌝ }
 {
-    let found = chains::find(words, w, m, index, buckets, Sought::Identity(q), false, i);
+    let found = chains::find(words, w, m, index, buckets, Sought::Identity(q), i);
     let Found::At(j) = found else {
         partners::append_partner(words, coeffs, w, m, i, Axis::Z(q), d);
         chains::push(words, w, m, Sought::Identity(q), index, buckets);
@@ -126,11 +126,11 @@ fn branch_identity(
     f: f64,
 ) -> usize
     requires { ⌜ (i < m) × Room (2 * w) (m + 1) (now words) (now coeffs)
-        × Spare (m + 1) buckets (length (now index)) × Indexed (Identity q) false w (now words) m buckets (now index) ⌝ }
+        × Spare (m + 1) buckets (length (now index)) × Indexed (Identity q) w (now words) m buckets (now index) ⌝ }
     ensures { λ r. ⌜ (m ≤ r) × (r ≤ m + 1) × Holds (2 * w) r r
         (branch w q f (termsIn (2 * w) m (now (words .entry)) (now (coeffs .entry))) (termAt (2 * w) (now (words .entry)) (now (coeffs .entry)) i))
         (now (words .entry)) (now (words .exit)) (now (coeffs .entry)) (now (coeffs .exit))
-        × Indexed (Identity q) false w (now (words .exit)) r buckets (now (index .exit)) ⌝ }
+        × Indexed (Identity q) w (now (words .exit)) r buckets (now (index .exit)) ⌝ }
 {
     if row_is_z(words, w, i, q) {
         let c = row::value_at(coeffs, i);
@@ -151,7 +151,7 @@ fn add_identity_branches(
     f: f64,
 ) -> usize
     requires { ⌜ Room (2 * w) (2 * n) (now words) (now coeffs)
-        × Spare (2 * n) buckets (length (now index)) × Indexed (Identity q) false w (now words) n buckets (now index) ⌝ }
+        × Spare (2 * n) buckets (length (now index)) × Indexed (Identity q) w (now words) n buckets (now index) ⌝ }
     ensures { λ r. ⌜ (r ≤ 2 * n) × Holds (2 * w) r r (branchesTo w q f n (termsIn (2 * w) n (now (words .entry)) (now (coeffs .entry))))
         (now (words .entry)) (now (words .exit)) (now (coeffs .entry)) (now (coeffs .exit)) ⌝ }
 {

@@ -2,6 +2,7 @@
 // rotations and channels.
 pub mod chains;
 pub mod channels;
+mod pairs;
 mod partners;
 mod probe;
 pub mod rotation;

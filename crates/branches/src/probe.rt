@@ -7,7 +7,6 @@ ghost use Rattle.terms.specs.Rotation.{metBy, onKey};
 ghost use Rattle.terms.specs.Branch.{first};
 ghost use Rattle.terms.specs.declared.Axis.the-variants.{Zz};
 ghost use Rattle.rows.specs.Rows.{keyAt};
-ghost use Rattle.branches.specs.declared.Sought.the-variants.{Partner};
 ghost use Rattle.branches.specs.Probe.{soughtBy, files, flippedWord, partnerWord, soughtWord};
 use crate::Sought;
 use terms::Axis;
@@ -48,7 +47,7 @@ fn on_both(w: usize, a: usize, b: usize) -> bool
     a != b
 }
 
-fn on_key(w: usize, axis: Axis) -> bool
+pub(crate) fn on_key(w: usize, axis: Axis) -> bool
     ensures { λ r. ⌜ r ≡ onKey w axis ⌝ }
 {
     match axis {
@@ -57,22 +56,12 @@ fn on_key(w: usize, axis: Axis) -> bool
     }
 }
 
-// Whether an index of partners has a key.
-fn partner_files(key: &[u64], w: usize, axis: Axis) -> bool
-    ensures { λ r. ⌜ r ≡ files w (Partner axis) (now (key .entry)) ⌝ }
-{
-    if key_met(key, axis) {
-        return true;
-    }
-    !on_key(w, axis)
-}
-
 fn key_files(key: &[u64], w: usize, sought: Sought) -> bool
     ensures { λ r. ⌜ r ≡ files w sought (now (key .entry)) ⌝ }
 {
     match sought {
         Sought::Same => true,
-        Sought::Partner(axis) => partner_files(key, w, axis),
+        Sought::Partner(_) => true,
         Sought::Identity(q) => !get_bit(key, w, q),
     }
 }

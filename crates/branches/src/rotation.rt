@@ -3,16 +3,13 @@ ghost use mathlib.Core.Path.{_≡_};
 ghost use mathlib.Core.List.{map};
 ghost use Prim.Native.Nat.{_+_, _*_, _≤_, _<_};
 ghost use lib.ListN.{length};
-ghost use Rattle.numbers.specs.Tests.{isZero};
 ghost use Rattle.terms.specs.Rotation.{metBy, partnerBy, scaledMet, mixed};
 ghost use Rattle.terms.specs.Branch.{branchLone, branchRow, branchTo};
 ghost use Rattle.terms.specs.declared.Axis.the-variants.{Z, Zz};
 ghost use Rattle.rows.specs.Rows.{coeffAt, termAt, termsIn, putCoeff, Room, Holds};
-ghost use Rattle.branches.specs.declared.Sought.the-variants.{Partner};
-ghost use Rattle.branches.specs.Chains.{Indexed};
+ghost use Rattle.branches.specs.Pairs.{Tabled};
 ghost use Rattle.branches.specs.Rotated.{Rotated};
-use crate::Sought;
-use crate::chains;
+use crate::pairs;
 use crate::partners;
 use crate::probe;
 use rows::row;
@@ -95,23 +92,14 @@ fn branch_row(
     cos: f64,
 ) -> usize
     requires { ⌜ (i < n) × (n ≤ m) × Room (2 * w) (m + 1) (now words) (now coeffs)
-        × Indexed (Partner axis) (isZero cos) w (now words) n buckets (now index) ⌝ }
+        × Tabled axis w (now words) n i buckets (now index) ⌝ }
     ensures { λ r. ⌜ (m ≤ r) × (r ≤ m + 1) × Holds (2 * w) r r (branchRow (metBy axis) (partnerBy w axis) sin cos n i (termsIn (2 * w) m (now (words .entry)) (now (coeffs .entry))))
         (now (words .entry)) (now (words .exit)) (now (coeffs .entry)) (now (coeffs .exit)) ⌝ }
 {
     if !probe::row_met(words, w, i, axis) {
         return m;
     }
-    let found = chains::find(
-        words,
-        w,
-        n,
-        index,
-        buckets,
-        Sought::Partner(axis),
-        cos == 0.0,
-        i,
-    );
+    let found = pairs::find(words, w, n, index, buckets, axis, i);
     let Found::At(j) = found else {
         return lone_row(words, coeffs, w, m, i, axis, sin, cos);
     };
@@ -132,7 +120,7 @@ fn branch_rows(
     sin: f64,
     cos: f64,
 ) -> usize
-    requires { ⌜ Room (2 * w) (2 * n) (now words) (now coeffs) × Indexed (Partner axis) (isZero cos) w (now words) n buckets (now index) ⌝ }
+    requires { ⌜ Room (2 * w) (2 * n) (now words) (now coeffs) × Tabled axis w (now words) n 0 buckets (now index) ⌝ }
     ensures { λ r. ⌜ (r ≤ 2 * n) × Holds (2 * w) r r (branchTo (metBy axis) (partnerBy w axis) sin cos n n (termsIn (2 * w) n (now (words .entry)) (now (coeffs .entry))))
         (now (words .entry)) (now (words .exit)) (now (coeffs .entry)) (now (coeffs .exit)) ⌝ }
 {
@@ -164,7 +152,7 @@ fn branch(
         scale_rows(words, coeffs, w, n, axis, sin, cos);
         return n;
     }
-    let buckets = chains::build(words, w, n, n, Sought::Partner(axis), index);
+    let buckets = pairs::table(words, w, n, axis, index);
     branch_rows(words, coeffs, index, buckets, w, n, axis, sin, cos)
 }
 

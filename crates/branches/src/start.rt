@@ -195,12 +195,12 @@ fn share_row(
     m: usize,
 ) -> usize
     requires { ⌜ (m ≤ i) × ((i * (2 * w) + 2 * w ≤ length (now words)) × ((2 * i + 1 < length (now coeffs))
-        × (Spare (m + 1) buckets (length (now index)) × Indexed Same false w (now words) m buckets (now index)))) ⌝ }
+        × (Spare (m + 1) buckets (length (now index)) × Indexed Same w (now words) m buckets (now index)))) ⌝ }
     ensures { λ r. ⌜ SharedRow (2 * w) i m (first (λ j. sameKey (keyAt (2 * w) (now (words .entry)) j) (keyAt (2 * w) (now (words .entry)) i)) m) r
         (now (words .entry)) (now (words .exit)) (now (coeffs .entry)) (now (coeffs .exit))
-        × Indexed Same false w (now (words .exit)) r buckets (now (index .exit)) ⌝ }
+        × Indexed Same w (now (words .exit)) r buckets (now (index .exit)) ⌝ }
 {
-    let found = chains::find(words, w, m, index, buckets, Sought::Same, false, i);
+    let found = chains::find(words, w, m, index, buckets, Sought::Same, i);
     match found {
         Found::At(j) => {
             add_row(coeffs, i, j);
@@ -222,7 +222,7 @@ fn share_rows(
     w: usize,
     n: usize,
 ) -> usize
-    requires { ⌜ Room (2 * w) n (now words) (now coeffs) × (Spare n buckets (length (now index)) × Indexed Same false w (now words) 0 buckets (now index)) ⌝ }
+    requires { ⌜ Room (2 * w) n (now words) (now coeffs) × (Spare n buckets (length (now index)) × Indexed Same w (now words) 0 buckets (now index)) ⌝ }
     ensures { λ r. ⌜ Holds (2 * w) n r (coalesced (termsIn (2 * w) n (now (words .entry)) (now (coeffs .entry))))
         (now (words .entry)) (now (words .exit)) (now (coeffs .entry)) (now (coeffs .exit)) × (r ≤ n) ⌝ }
 {

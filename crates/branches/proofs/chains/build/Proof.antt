@@ -1,6 +1,5 @@
 -- `build` meets its contract: the rows before i are put in. Assumes nothing.
 use mathlib.Core.Path.{_≡_, refl, sym, _∙_, subst}
-use mathlib.Core.Bool.{false}
 use Prim.Native.Nat.{_-_, _*_, _≤_}
 use native.Mathlib.Omega.{arith}
 use lib.ListN.{length}
@@ -13,7 +12,7 @@ use Rattle.branches.proofs.chains.build.Statement.{statement}
 use Rattle.branches.proofs.chains.build.Tie as tie
 
 abbrev Inv-loop : tie.InvT-loop
-Inv-loop words w n cap sought index₀ buckets i₀ index i = (i ≤ n) × ((length index ≡ length index₀) × Indexed sought false w words i buckets index)
+Inv-loop words w n cap sought index₀ buckets i₀ index i = (i ≤ n) × ((length index ≡ length index₀) × Indexed sought w words i buckets index)
 
 abbrev μ-loop : tie.MeasureT-loop
 μ-loop words w n cap sought index₀ buckets i₀ index i = n - i

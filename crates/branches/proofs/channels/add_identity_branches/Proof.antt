@@ -1,7 +1,6 @@
 -- `add_identity_branches` meets its contract: the branches of the rows before i are added, m counts the terms, and the index is one of them. Assumes nothing.
 use Prim.Native.Nat.{_+_, _-_, _*_, _≤_}
 use mathlib.Core.Path.{_≡_, refl, sym, _∙_, subst}
-use mathlib.Core.Bool.{false}
 use native.Mathlib.Omega.{arith}
 use borrow.Author.Needs.{needs}
 use denote.Ref.{now}
@@ -21,7 +20,7 @@ use Rattle.branches.proofs.channels.add_identity_branches.Tie as tie
 
 abbrev Inv-loop : tie.InvT-loop
 Inv-loop words₀ coeffs₀ index₀ buckets w n q f m₀ i₀ words coeffs index m i = (i ≤ n) × (n ≤ m) × (m ≤ n + i) × Holds (2 * w) m m (branchesTo w q f i (termsIn (2 * w) n words₀ coeffs₀)) words₀ words coeffs₀ coeffs
-    × (length index ≡ length index₀) × Indexed (Identity q) false w words m buckets index
+    × (length index ≡ length index₀) × Indexed (Identity q) w words m buckets index
 
 abbrev μ-loop : tie.MeasureT-loop
 μ-loop words₀ coeffs₀ index₀ buckets w n q f m₀ i₀ words coeffs index m i = n - i

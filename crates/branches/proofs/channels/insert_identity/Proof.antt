@@ -1,7 +1,6 @@
 -- `insert_identity` meets its contract: the row is there, or appended and put into the index. Assumes nothing.
 use native.Mathlib.Omega.{arith}
 use mathlib.Core.Path.{_≡_}
-use mathlib.Core.Bool.{false}
 use denote.Ref.{now}
 use lib.ListN.{length}
 use Rattle.terms.specs.declared.Axis.the-variants.{Z}
@@ -27,7 +26,7 @@ push-requires c κs = let s = c .before .before .before .before .before .before 
     let r = room-at (s .pre .1) (a .m) (omega arith) .0 in
     let long : length (c .before .before .before .before .before .before .append-partner .last .0) ≡ length (now (a .words)) = c .before .before .before .before .before .before .append-partner .kept .0 in
     let h = room-at (s .pre .1) (a .i) (omega (arith, s .pre .0)) .0 in
-    (omega arith, (s .pre .3, index-appended (Identity (a .q)) false (a .w) (Z (a .q)) (a .i) (a .m) (a .buckets) (now (a .index)) (now (a .words)) h r (c .before .before .before .before .before .before .append-partner .ensures .0) (s .pre .4)))
+    (omega arith, (s .pre .3, index-appended (Identity (a .q)) (a .w) (Z (a .q)) (a .i) (a .m) (a .buckets) (now (a .index)) (now (a .words)) h r (c .before .before .before .before .before .before .append-partner .ensures .0) (s .pre .4)))
 
 add-result : tie.Need-add-result
 add-result c = let s = c .before .before .before .before .before .before .before .before .before .before .before .before .before .before .before .before .before .before .before .before in let r = s .pre .1 .coeffs-room in omega arith

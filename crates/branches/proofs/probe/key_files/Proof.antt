@@ -8,13 +8,10 @@ use borrow.Author.Needs.{needs}
 use Rattle.branches.proofs.probe.key_files.Statement.{statement}
 use Rattle.branches.proofs.probe.key_files.Tie as tie
 
-returns-2 : tie.Need-returns-2
-returns-2 c = let a = c .before .before .before .before .before .args in c .partner-files .ensures ∙ ap (λ (s : Sought). files (a .w) s (now (a .key))) (sym (c .before .before .sought .given .1))
-
 returns-3 : tie.Need-returns-3
-returns-3 c = let a = c .before .before .before .before .before .args in ap not (c .get-bit .ensures) ∙ ap (λ (s : Sought). files (a .w) s (now (a .key))) (sym (c .before .before .sought2 .given .1))
+returns-3 c = let a = c .before .before .before .before .before .args in ap not (c .get-bit .ensures) ∙ ap (λ (s : Sought). files (a .w) s (now (a .key))) (sym (c .before .before .sought .given .1))
 
 pub key-files-spec : {M : Type 1} → statement M
 key-files-spec =
     tie.close
-    (tie.spec (λ c. search needs) (λ c. search needs) (λ c κs. search needs) (λ c. search needs) (λ c κs. search needs) (λ c. search needs) returns-2 returns-3)
+    (tie.spec (λ c. search needs) (λ c. search needs) (λ c. search needs) (λ c κs. search needs) (λ c. search needs) (λ c. search needs) returns-3)

@@ -5,9 +5,6 @@ use borrow.Author.Tests.{leb-true}
 use denote.Ref.{now}
 use Rattle.rows.proofs.HoldLaws.{room-less}
 use Rattle.rows.proofs.StepLaws.{rows-room, twice-yes, twice-no}
-use Rattle.branches.specs.declared.Sought.the-variants.{Partner}
-use Rattle.branches.proofs.FileLaws.{index-any}
-use Rattle.numbers.specs.Tests.{isZero}
 use Rattle.branches.proofs.RotatedLaws.{rotated-scaled, rotated-branched, unrotated}
 use borrow.Author.Needs.{needs}
 use Rattle.branches.proofs.rotation.branch.Statement.{statement}
@@ -27,16 +24,16 @@ returns-2 c = let i = c .before .before .before .before .before .before in
     let a = c .before .before .before .before .before .before .before .before .before .before .before .args in
     rotated-scaled (a .w) (a .n) (a .axis) (a .sin) (a .cos) (now (a .words)) (now (a .coeffs)) (λ j. c .before .before .before .before .before .before .before .before .before .before .slice-known .given j .fits) (twice-yes (a .w) (a .n) (now (a .words)) (now (a .coeffs)) (i .before .rows-in .ensures) (i .if1 .left)) (c .before .before .before .before .before .if2 .taken) (c .before .before .scale-rows .ensures)
 
-build-requires : tie.Need-build-requires
-build-requires c κs = let i = c .before .before .before in
+table-requires : tie.Need-table-requires
+table-requires c κs = let i = c .before .before .before in
     let a = c .before .before .before .before .before .before .before .before .args in
-    (room-less {R = a .n} (omega arith) (rows-room (a .w) (2 * a .n) (now (a .words)) (now (a .coeffs)) (leb-true (2 * a .n) _ (twice-yes (a .w) (a .n) (now (a .words)) (now (a .coeffs)) (i .before .rows-in .ensures) (i .if1 .left)))) .words-room, omega arith)
+    room-less {R = a .n} (omega arith) (rows-room (a .w) (2 * a .n) (now (a .words)) (now (a .coeffs)) (leb-true (2 * a .n) _ (twice-yes (a .w) (a .n) (now (a .words)) (now (a .coeffs)) (i .before .rows-in .ensures) (i .if1 .left)))) .words-room
 
 branch-rows-requires : tie.Need-branch-rows-requires
 branch-rows-requires c κs = let i = c .before .before .before .before .before .before .before .before .before in
     let a = c .before .before .before .before .before .before .before .before .before .before .before .before .before .before .args in (
       rows-room (a .w) (2 * a .n) (now (a .words)) (now (a .coeffs)) (leb-true (2 * a .n) _ (twice-yes (a .w) (a .n) (now (a .words)) (now (a .coeffs)) (i .before .rows-in .ensures) (i .if1 .left))),
-      index-any (Partner (a .axis)) (isZero (a .cos)) (a .w) (a .n) _ (now (a .words)) _ (c .before .before .before .before .before .build .ensures .0),
+      c .before .before .before .before .before .table .ensures,
     )
 
 returns-3 : tie.Need-returns-3
@@ -48,4 +45,4 @@ returns-3 c = let i = c .before .before .before .before .before .before .before 
 pub branch-spec : {M : Type 1} → statement M
 branch-spec =
     tie.close
-    (tie.spec (λ c κs. search needs) returns scale-rows-requires (λ c. search needs) (λ c. search needs) returns-2 build-requires branch-rows-requires (λ c. search needs) (λ c. search needs) (λ c. search needs) returns-3)
+    (tie.spec (λ c κs. search needs) returns scale-rows-requires (λ c. search needs) (λ c. search needs) returns-2 table-requires branch-rows-requires (λ c. search needs) (λ c. search needs) (λ c. search needs) returns-3)

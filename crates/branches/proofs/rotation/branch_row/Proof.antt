@@ -7,7 +7,6 @@ use denote.Ref.{now}
 use Rattle.terms.specs.Rotation.{metBy, partnerBy}
 use Rattle.terms.proofs.AxisLaws.{partner-length}
 use Rattle.rows.proofs.HoldLaws.{room-at, room-less}
-use Rattle.branches.proofs.ProbeLaws.{partner-files}
 use Rattle.branches.proofs.RotationRows.{row-unmet, row-lone, row-pair, pair-mixed, pair-done, pair-below}
 use borrow.Author.Needs.{needs}
 use Rattle.branches.proofs.rotation.branch_row.Statement.{statement}
@@ -26,7 +25,7 @@ find-requires : tie.Need-find-requires
 find-requires c κs = let s = c .before .before .before .before .before .before .before in
     let a = s .args in
     let met = sym (c .before .before .row-met .ensures) ∙ not-false (c .before .before .row-met .result) (c .before .if1 .left) in
-    (room-less {R = a .n} (omega (arith, s .pre .1)) (s .pre .2) .words-room, (room-at (s .pre .2) (a .i) (omega (arith, s .pre .0, s .pre .1)) .0, (partner-files (a .w) (a .axis) _ met, s .pre .3)))
+    (room-less {R = a .n} (omega (arith, s .pre .1)) (s .pre .2) .words-room, (s .pre .0, (met, s .pre .3)))
 
 returns-2 : tie.Need-returns-2
 returns-2 c = let s = c .before .before .before .before .before .before .before .before .before .before .before .before .before .before .before .before .before in

@@ -1,25 +1,23 @@
--- `branch_rows` meets its contract: the rows before i are done, m counts the terms, and the index is still one of the first n rows. Assumes nothing.
+-- `branch_rows` meets its contract: the rows before i are done, m counts the terms, and the table says the partners of the rows from i on. Assumes nothing.
 use Prim.Native.Nat.{_+_, _-_, _*_, _≤_}
 use mathlib.Core.Path.{_≡_}
 use native.Mathlib.Omega.{arith}
 use borrow.Author.Needs.{needs}
 use denote.Ref.{now}
-use Rattle.numbers.specs.Tests.{isZero}
 use Rattle.terms.specs.Rotation.{metBy, partnerBy}
 use Rattle.terms.specs.Branch.{branchTo}
 use Rattle.rows.specs.Rows.{termsIn, Holds}
 use Rattle.rows.proofs.HoldLaws.{hold-start, room-less}
 use Rattle.rows.proofs.StepLaws.{held-room}
-use Rattle.branches.specs.declared.Sought.the-variants.{Partner}
-use Rattle.branches.specs.Chains.{Indexed}
+use Rattle.branches.specs.Pairs.{Tabled}
 use Rattle.branches.proofs.RotationRows.{branch-turn}
-use Rattle.branches.proofs.IndexRows.{index-rotated}
+use Rattle.branches.proofs.IndexRows.{table-rotated}
 use Rattle.branches.proofs.rotation.branch_rows.Statement.{statement}
 use Rattle.branches.proofs.rotation.branch_rows.Tie as tie
 
 abbrev Inv-loop : tie.InvT-loop
 Inv-loop words₀ coeffs₀ index buckets w n axis sin cos m₀ i₀ words coeffs m i = (i ≤ n) × (n ≤ m) × (m ≤ n + i) × Holds (2 * w) m m (branchTo (metBy axis) (partnerBy w axis) sin cos n i (termsIn (2 * w) n words₀ coeffs₀)) words₀ words coeffs₀ coeffs
-    × Indexed (Partner axis) (isZero cos) w words n buckets index
+    × Tabled axis w words n i buckets index
 
 abbrev μ-loop : tie.MeasureT-loop
 μ-loop words₀ coeffs₀ index buckets w n axis sin cos m₀ i₀ words coeffs m i = n - i
@@ -40,7 +38,7 @@ loop-again c = let s = c .before .before .before .before .before .before .before
       omega arith,
       omega arith,
       branch-turn (metBy (a .axis)) (partnerBy (a .w) (a .axis)) (a .sin) (a .cos) (a .n) (l .i) _ (l .inv .3) (e .0) (e .2),
-      index-rotated (a .w) (a .axis) (a .sin) (a .cos) (a .n) (l .m) (l .i) _ (a .buckets) (now (a .index)) (l .words) _ (l .coeffs) _ (l .inv .1) (e .0) (e .2) (l .inv .4),
+      table-rotated (a .w) (a .axis) (a .sin) (a .cos) (a .n) (l .m) (l .i) _ (a .buckets) (now (a .index)) (l .words) _ (l .coeffs) _ (c .before .before .before .before .before .before .before .loop-test .taken) (l .inv .1) (e .0) (e .2) (l .inv .4),
     )
 
 same-length : tie.Need-same-length Inv-loop μ-loop

@@ -1,6 +1,5 @@
 -- `share_rows` meets its contract: the rows before i are merged, and the index is one of the merged rows. Assumes nothing.
 use mathlib.Core.Path.{_≡_, refl, sym, _∙_, subst}
-use mathlib.Core.Bool.{false}
 use Prim.Native.Nat.{_-_, _*_, _≤_}
 use native.Mathlib.Omega.{arith}
 use lib.ListN.{length}
@@ -15,7 +14,7 @@ use Rattle.branches.proofs.start.share_rows.Tie as tie
 
 abbrev Inv-loop : tie.InvT-loop
 Inv-loop words₀ coeffs₀ index₀ buckets w n m₀ i₀ words coeffs index m i =
-    (i ≤ n) × (Merging (2 * w) n words₀ words coeffs₀ coeffs m i × ((length index ≡ length index₀) × Indexed Same false w words m buckets index))
+    (i ≤ n) × (Merging (2 * w) n words₀ words coeffs₀ coeffs m i × ((length index ≡ length index₀) × Indexed Same w words m buckets index))
 
 abbrev μ-loop : tie.MeasureT-loop
 μ-loop words₀ coeffs₀ index₀ buckets w n m₀ i₀ words coeffs index m i = n - i
