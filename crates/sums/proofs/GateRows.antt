@@ -1,16 +1,15 @@
 -- One row through a gate, and a turn of the loop over the rows. Assumes nothing.
-use mathlib.Core.Path.{_≡_, refl, sym, ap, ap₂, _∙_}
-use mathlib.Core.List.{List}
-use Prim.Native.Nat.{ℕ, _+_, _*_, _≤_, _<_}
-use native.Mathlib.Nat.{lt-of-lt-of-le, min-le-left, le-refl}
+use mathlib.Core.Path.{_≡_, ap, _∙_}
+use mathlib.Core.List.{List, _++_}
+use Prim.Native.Nat.{ℕ, _+_, _-_, _*_, _≤_, _<_}
+use native.Mathlib.Nat.{le-refl}
 use native.Mathlib.Omega.{arith}
-use lib.ListN.{length}
+use lib.ListN.{length, take, drop}
 use lib.Ieee.{Float}
 use Rattle.words.specs.declared.Gate.{Gate}
 use Rattle.words.specs.Gates.{bitsAt, conjKey, conjPhase}
-use Rattle.words.specs.Rows.{rowCount, conjRow, phaseRow}
 use Rattle.words.proofs.GateLaws.{conjKey-length}
-use Rattle.words.proofs.RowSteps.{row-in, phase-in}
+use Rattle.words.proofs.RowSteps.{part-is, part-back}
 use Rattle.terms.specs.declared.Complex64.{Complex64}
 use Rattle.terms.specs.Lists.{mapTo}
 use Rattle.terms.specs.Coefficient.{turnedOf}
@@ -21,14 +20,20 @@ use Rattle.rows.proofs.HoldLaws.{hold-map-row, room-at}
 use Rattle.rows.proofs.StepLaws.{rows-room, held-rows}
 
 module _ (g : Gate) (w a b i : ℕ) (ws : List ℕ) (cs : List Float) where
-  pub gate-row : {ws′ : List ℕ} {cs′ : List Float} {q : ℕ} {u v : Complex64} → i < rowsIn w ws cs → ws′ ≡ conjRow g w a b i ws
-      → q ≡ phaseRow g w a b i ws → v ≡ coeffAt cs i → u ≡ turnedOf q v → cs′ ≡ putCoeff cs i u
-      → (ws′ ≡ putKey (2 * w) ws i (conjugated w g a b (termAt (2 * w) ws cs i) .key))
-      × (cs′ ≡ putCoeff cs i (conjugated w g a b (termAt (2 * w) ws cs i) .coeff))
+  -- the words of the row as the code takes them, a part of the buffer
+  abbrev part : List ℕ
+  part = take (i * (2 * w) + 2 * w - i * (2 * w)) (drop (i * (2 * w)) ws)
+
+  pub gate-row : {k : List ℕ} {q : ℕ} {u : Complex64} → k ≡ conjKey g w a b part → q ≡ conjPhase g (bitsAt w a b part) → u ≡ turnedOf q (coeffAt cs i)
+      → (take (i * (2 * w)) ws ++ (k ++ drop (i * (2 * w) + 2 * w - i * (2 * w)) (drop (i * (2 * w)) ws))
+      ≡ putKey (2 * w) ws i (conjugated w g a b (termAt (2 * w) ws cs i) .key))
+      × (putCoeff cs i u ≡ putCoeff cs i (conjugated w g a b (termAt (2 * w) ws cs i) .coeff))
   unfolding conjugated
-  gate-row h ew eq ev eu ec =
-      let r : i < rowCount w ws = lt-of-lt-of-le h (min-le-left _ _) in
-      (ew ∙ row-in w i ws g a b r, ec ∙ ap (putCoeff cs i) (eu ∙ ap₂ turnedOf (eq ∙ phase-in w i ws g a b r) ev))
+  gate-row {k} ek eq eu =
+      let e = part-is w i ws in (
+        part-back w i ws k ∙ ap (putKey (2 * w) ws i) (ek ∙ ap (conjKey g w a b) e),
+        ap (putCoeff cs i) (eu ∙ ap (λ (n : ℕ). turnedOf n (coeffAt cs i)) (eq ∙ ap (λ (l : List ℕ). conjPhase g (bitsAt w a b l)) e)),
+      )
 
   pub gate-long : i < rowsIn w ws cs → length (conjugated w g a b (termAt (2 * w) ws cs i) .key) ≡ 2 * w
   unfolding conjugated

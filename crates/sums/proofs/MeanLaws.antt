@@ -1,9 +1,9 @@
--- Words that are all 0, one row of the mean, and finite coefficients row by row. Assumes nothing.
+-- Words that are all 0, one row of the mean, and finite coefficients row by row and number by number. Assumes nothing.
 use mathlib.Core.Path.{_≡_, refl, sym, ap, _∙_}
-use mathlib.Core.Bool.{Bool, true, false, cond, _&&_}
+use mathlib.Core.Bool.{Bool, true, false, cond, _&&_, and-true, and-assoc}
 use mathlib.Core.List.{List, [], _∷_}
-use Prim.Native.Nat.{ℕ, zero, suc, _+_, _*_, _/_, _≤_, _<_, zero-le, suc-le-suc}
-use native.Mathlib.Nat.{le-of-suc-le-suc, not-suc-le-zero}
+use Prim.Native.Nat.{ℕ, zero, suc, _+_, _-_, _*_, _/_, _≤_, _<_, zero-le, suc-le-suc}
+use native.Mathlib.Numerals.{add-one}
 use native.Mathlib.Omega.{arith}
 use lib.Dec.{eqb}
 use lib.ListN.{length, getD, take, drop, length-drop, List·getD-eq-default}
@@ -59,30 +59,43 @@ module _ (w i : ℕ) (ws : List ℕ) (cs : List Float) (sum : Float) {b : Bool} 
 
 -- ---- finite coefficients
 
-tab-finite : (n : ℕ) (f : ℕ → Term) → ((j : ℕ) → j < n → finiteOf (f j .coeff) ≡ true) → allFinite (tab n f) ≡ true
+-- the coefficients as numbers one after another: whether the first m are finite
+unfoldable pub numbersFinite : ℕ → List Float → Bool
+numbersFinite zero cs = true
+numbersFinite (suc m) cs = numbersFinite m cs && isFinite (getD cs m nan)
+
+tab-finite : (n : ℕ) (f : ℕ → Term) → allFinite (tab (suc n) f) ≡ allFinite (tab n f) && finiteOf (f n .coeff)
 unfolding allFinite tab
-tab-finite zero f h = refl
-tab-finite (suc n) f h = λ k. h zero (suc-le-suc zero-le) k && tab-finite n (λ i. f (suc i)) (λ j l. h (suc j) (suc-le-suc l)) k
+tab-finite zero f = and-true (finiteOf (f zero .coeff))
+tab-finite (suc n) f =
+    ap (λ (b : Bool). finiteOf (f zero .coeff) && b) (tab-finite n (λ i. f (suc i)))
+    ∙ sym (and-assoc (finiteOf (f zero .coeff)) (allFinite (tab n (λ i. f (suc i)))) (finiteOf (f (suc n) .coeff)))
 
-tab-not-finite : (n : ℕ) (f : ℕ → Term) (j : ℕ) → j < n → finiteOf (f j .coeff) ≡ false → allFinite (tab n f) ≡ false
-unfolding allFinite tab
-tab-not-finite zero f j l h = absurd (not-suc-le-zero l)
-tab-not-finite (suc n) f zero l h = ap (λ (b : Bool). b && allFinite (tab n (λ i. f (suc i)))) h
-tab-not-finite (suc n) f (suc j) l h =
-    ap (λ (b : Bool). finiteOf (f zero .coeff) && b) (tab-not-finite n (λ i. f (suc i)) j (le-of-suc-le-suc l) h) ∙ and-false (finiteOf (f zero .coeff))
+-- n rows are 2 * n numbers
+pub finite-numbers : (n : ℕ) (cs : List Float) → finiteRows n cs ≡ numbersFinite (2 * n) cs
+unfolding numbersFinite allFinite tab
+finite-numbers zero cs = refl
+finite-numbers (suc n) cs =
+    let two : suc (suc (2 * n)) ≡ 2 * suc n = omega arith in
+    let past : 2 * n + 1 ≡ suc (2 * n) = omega arith in
+    tab-finite n (termAt 0 [] cs)
+    ∙ ap (λ (b : Bool). b && finiteOf (coeffAt cs n)) (finite-numbers n cs)
+    ∙ ap (λ (k : ℕ). numbersFinite (2 * n) cs && (isFinite (getD cs (2 * n) nan) && isFinite (getD cs k nan))) past
+    ∙ sym (and-assoc (numbersFinite (2 * n) cs) (isFinite (getD cs (2 * n) nan)) (isFinite (getD cs (suc (2 * n)) nan)))
+    ∙ ap (λ (m : ℕ). numbersFinite m cs) two
 
-pub finite-all : (n : ℕ) (cs : List Float) → ((j : ℕ) → j < n → finiteOf (coeffAt cs j) ≡ true) → finiteRows n cs ≡ true
-finite-all n cs h = tab-finite n (termAt 0 [] cs) h
-
-pub not-finite : (n : ℕ) (cs : List Float) (j : ℕ) → j < n → finiteOf (coeffAt cs j) ≡ false → finiteRows n cs ≡ false
-not-finite n cs j l h = tab-not-finite n (termAt 0 [] cs) j l h
+pub one-more-finite : (m : ℕ) (cs : List Float) → numbersFinite (m + 1) cs ≡ numbersFinite m cs && isFinite (getD cs m nan)
+unfolding numbersFinite
+one-more-finite m cs = ap (λ (k : ℕ). numbersFinite k cs) (add-one m)
 
 -- a row that is not there
 pub missing-finite : (n : ℕ) (cs : List Float) → length cs / 2 < n → finiteRows n cs ≡ false
 missing-finite n cs h =
-    let j : ℕ = length cs / 2 in
-    let past : length cs ≤ 2 * j + 1 = omega arith in
-    not-finite n cs j h (ap (λ (x : Float). isFinite (getD cs (2 * j) nan) && isFinite x) (List·getD-eq-default cs nan past) ∙ and-false (isFinite (getD cs (2 * j) nan)))
+    let m : ℕ = 2 * n - 1 in
+    let more : 2 * n ≡ m + 1 = omega arith in
+    let past : length cs ≤ m = omega arith in
+    finite-numbers n cs ∙ ap (λ (k : ℕ). numbersFinite k cs) more ∙ one-more-finite m cs
+    ∙ ap (λ (x : Float). numbersFinite m cs && isFinite x) (List·getD-eq-default cs nan past) ∙ and-false (numbersFinite m cs)
 
 same-finite : (n : ℕ) (f g : ℕ → Term) → ((i : ℕ) → f i .coeff ≡ g i .coeff) → allFinite (tab n f) ≡ allFinite (tab n g)
 unfolding allFinite tab

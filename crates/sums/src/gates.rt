@@ -5,8 +5,11 @@ ghost use Prim.Native.Nat.{_*_, _≤_, _<_};
 ghost use Rattle.terms.specs.Term.{conjugated};
 ghost use Rattle.rows.specs.Rows.{termAt, termsIn, rowsIn, putKey, putCoeff, Stepped, Holds};
 use rows::row;
+use terms::Complex64;
 use words::Gate;
 
+// Row i backward through a gate. Both buffers hold the row, so its words are taken as a part and its numbers by their places, with no
+// test or division for each row.
 fn conjugate_row(
     words: &mut [u64],
     coeffs: &mut [f64],
@@ -20,9 +23,17 @@ fn conjugate_row(
     ensures { λ _. ⌜ (now (words .exit) ≡ putKey (2 * w) (now (words .entry)) i (conjugated w gate a b (termAt (2 * w) (now (words .entry)) (now (coeffs .entry)) i) .key))
         × (now (coeffs .exit) ≡ putCoeff (now (coeffs .entry)) i (conjugated w gate a b (termAt (2 * w) (now (words .entry)) (now (coeffs .entry)) i) .coeff)) ⌝ }
 {
-    let quarters = words::rows::conjugate_row(words, w, i, gate, a, b);
-    let v = row::value_at(coeffs, i);
-    row::store_value(coeffs, i, v.turned(quarters));
+    let size = 2 * w;
+    let base = i * size;
+    let end = base + size;
+    let quarters = words::gates::conjugate_key(&mut words[base..end], w, gate, a, b);
+    let at = 2 * i;
+    let re = coeffs[at];
+    let im = coeffs[at + 1];
+    let v = Complex64 { re, im };
+    let turned = v.turned(quarters);
+    coeffs[at] = turned.re;
+    coeffs[at + 1] = turned.im;
 }
 
 fn conjugate_rows(

@@ -1,6 +1,6 @@
 // The mean of a sum, and whether its coefficients are finite.
 ghost use mathlib.Core.Path.{_≡_};
-ghost use mathlib.Core.Bool.{cond};
+ghost use mathlib.Core.Bool.{cond, _&&_};
 ghost use Prim.Native.Nat.{_+_, _*_, _≤_, _<_};
 ghost use lib.Dec.{leb};
 ghost use lib.ListN.{length, take, drop};
@@ -9,6 +9,7 @@ ghost use Rattle.words.specs.Keys.{allZero};
 ghost use Rattle.terms.specs.Mean.{addMean, meanOf};
 ghost use Rattle.rows.specs.Rows.{termAt, termsIn, rowsIn};
 ghost use Rattle.sums.specs.Steps.{finiteRows};
+use numbers::tests::is_finite;
 use rows::row;
 
 // Whether the w words from a place on are all 0.
@@ -64,20 +65,26 @@ pub fn diagonal_expectation(words: &[u64], coeffs: &[f64], w: usize, n: usize) -
     0.0
 }
 
-// Whether the first n coefficients are there and finite.
+fn both(p: bool, q: bool) -> bool
+    ensures { λ r. ⌜ r ≡ (p && q) ⌝ }
+{
+    if p { q } else { false }
+}
+
+// Whether the first n coefficients are there and finite. Every number is tested, with no early end, so that the compiler can test
+// several at once.
 pub fn all_finite(coeffs: &[f64], n: usize) -> bool
     ensures { λ r. ⌜ r ≡ finiteRows n (now (coeffs .entry)) ⌝ }
 {
     if coeffs.len() / 2 < n {
         return false;
     }
+    let end = 2 * n;
+    let mut finite = true;
     let mut i = 0;
-    while i < n {
-        let v = row::value_at(coeffs, i);
-        if !v.finite() {
-            return false;
-        }
+    while i < end {
+        finite = both(finite, is_finite(coeffs[i]));
         i += 1;
     }
-    true
+    finite
 }

@@ -1,5 +1,6 @@
 -- What a gate does to a key: it keeps the length and the bound of the words, changes no bit outside its targets, gives the bits at its
--- targets as `conjBits` has them, does nothing where it meets identities only, and with one target never looks at the second. Assumes nothing.
+-- targets as `conjBits` has them, makes just the flips of `flips`, does nothing where it meets identities only, and with one target
+-- never looks at the second. Assumes nothing.
 use Prim.Native.Nat.{ℕ, _*_, _/_, _<_}
 use mathlib.Core.Path.{_≡_, refl, sym, ap, ap₂, _∙_, subst}
 use mathlib.Core.Bool.{Bool, true, false, not, _&&_, _||_}
@@ -9,6 +10,7 @@ use lib.ListN.{length}
 use lib.Dec.{T, eqb, eqb→eq}
 use Rattle.words.specs.declared.Bits as B
 use Rattle.words.specs.declared.Gate.{Gate}
+use Rattle.words.specs.declared.Gate.the-variants.{Id, X, Y, Z, H, S, Sdg, Sx, Sxdg, Cx, Cz, Swap}
 use Rattle.words.specs.Keys.{Key, _⊕_, bitAt, zAt, Words}
 use Rattle.words.specs.Gates.{hasTwoTargets, mk, conjBits, conjPhase, bitsAt, flipWhen, moved, conjKey, meets}
 use Rattle.words.proofs.KeyLaws.{flipAt-length, flipAt-words, bitAt-flip-same, bitAt-flip-other}
@@ -136,11 +138,36 @@ module _ (s t : B.Bits) (w a b : ℕ) (k : Key) (ha : a < 64 * w) (hb : b < 64 *
 
 -- ---- a gate on a key
 
--- from the bits that were read and what the gate makes of them
-pub conjKey-by : (g : Gate) (w a b : ℕ) (k : Key) {l : Key} {s t : B.Bits} → s ≡ bitsAt w a b k → t ≡ conjBits g s → l ≡ moved s t w a b k
-    → l ≡ conjKey g w a b k
+-- which of the bits at its targets a gate flips
+abbrev flips : Gate → B.Bits → B.Bits
+flips H s = mk (s .xa ⊕ s .za) (s .xa ⊕ s .za) false false
+flips S s = mk false (s .xa) false false
+flips Sdg s = mk false (s .xa) false false
+flips Sx s = mk (s .za) false false false
+flips Sxdg s = mk (s .za) false false false
+flips Cx s = mk false (s .zb) (s .xa) false
+flips Cz s = mk false (s .xb) false (s .xa)
+flips Swap s = mk (s .xa ⊕ s .xb) (s .za ⊕ s .zb) (s .xa ⊕ s .xb) (s .za ⊕ s .zb)
+flips Id s = mk false false false false
+flips X s = mk false false false false
+flips Y s = mk false false false false
+flips Z s = mk false false false false
+
+abbrev differing : B.Bits → B.Bits → B.Bits
+differing s t = mk (s .xa ⊕ t .xa) (s .za ⊕ t .za) (s .xb ⊕ t .xb) (s .zb ⊕ t .zb)
+
+differing-flips : (g : Gate) (s : B.Bits) → differing s (conjBits g s) ≡ flips g s
+differing-flips g s = same→eq (differing s (conjBits g s)) (flips g s) (at-each (λ g s. same (differing s (conjBits g s)) (flips g s)) tt g s)
+
+abbrev flipped : B.Bits → ℕ → ℕ → ℕ → Key → Key
+flipped f w a b k = flipWhen (f .zb) (zAt w b) (flipWhen (f .xb) b (flipWhen (f .za) (zAt w a) (flipWhen (f .xa) a k)))
+
+-- those flips make `conjKey`: in the arm of the gate h, the ones that it needs
+pub conjKey-flips : (w a b : ℕ) (k : Key) {l : Key} {g h : Gate} → g ≡ h → l ≡ flipped (flips h (bitsAt w a b k)) w a b k → l ≡ conjKey g w a b k
 unfolding conjKey
-conjKey-by g w a b k p q e = e ∙ ap₂ (λ (x y : B.Bits). moved x y w a b k) p (q ∙ ap (conjBits g) p)
+conjKey-flips w a b k {l} {g} {h} e f =
+    let s = bitsAt w a b k in
+    f ∙ ap (λ (x : Gate). flipped (flips x s) w a b k) (sym e) ∙ ap (λ (d : B.Bits). flipped d w a b k) (sym (differing-flips g s))
 
 module _ (g : Gate) (w a b : ℕ) (k : Key) where
   pub conjKey-length : length (conjKey g w a b k) ≡ length k

@@ -8,4 +8,5 @@ pub mod InverseLaws
 pub mod ProductLaws
 pub mod RowSteps
 pub mod RowLaws
+mod BitNumbers
 mod Place

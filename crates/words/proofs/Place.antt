@@ -1,4 +1,4 @@
--- A bit counted from a word of a buffer: what the code of `get_bit` and `flip_bit` computes. Assumes nothing.
+-- A bit counted from a word of a buffer: what the code of `get_bit`, `bit_of`, `flip_bit` and `flip_when` computes. Assumes nothing.
 use Prim.Native.Nat.{ℕ, _+_, _*_, _/_, _%_, _^_, _≤_}
 use mathlib.Core.Path.{_≡_, refl, sym, ap, ap₂, _∙_, subst⁻¹}
 use mathlib.Core.Bool.{Bool, true, false, cond}
@@ -14,6 +14,7 @@ use Rattle.words.specs.Keys.{bitOf, flipOf, bitAt, flipAt}
 use Rattle.words.specs.Gates.{flipWhen}
 use Rattle.words.proofs.WordLaws.{xor-flip}
 use Rattle.words.proofs.KeyLaws.{flipAt-out, bitAt-past}
+use Rattle.words.proofs.BitNumbers.{digit}
 
 module _ (k : List ℕ) (base i : ℕ) where
   word : (64 * base + i) / 64 ≡ base + i / 64
@@ -28,6 +29,13 @@ module _ (k : List ℕ) (base i : ℕ) where
 
   pub bit-past : length k ≤ base + i / 64 → bitAt k (64 * base + i) ≡ false
   bit-past h = bitAt-past k (64 * base + i) (subst⁻¹ (λ (x : ℕ). length k ≤ x) word h)
+
+  -- the bit as a number
+  pub number-place : getD k (base + i / 64) 0 / 2 ^ (i % 64) % 2 ≡ cond (bitAt k (64 * base + i)) 1 0
+  number-place = digit (getD k (base + i / 64) 0 / 2 ^ (i % 64) % 2) (omega arith) ∙ ap (λ (p : Bool). cond p 1 0) (sym bit-place)
+
+  pub number-past : length k ≤ base + i / 64 → {r : ℕ} → r ≡ 0 → r ≡ cond (bitAt k (64 * base + i)) 1 0
+  number-past h e = e ∙ ap (λ (p : Bool). cond p 1 0) (sym (bit-past h))
 
   pub flip-place : flipAt k (64 * base + i) ≡ set k (base + i / 64) (bitXor (getD k (base + i / 64) 0) (1 * 2 ^ (i % 64) % 2 ^ 64))
   unfolding flipAt

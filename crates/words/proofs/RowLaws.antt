@@ -1,19 +1,14 @@
 -- The laws of rows, for the crates above: a buffer with one row replaced has that row, every other row as it was, and its length. Over rows of any size.
--- A gate on a key keeps the key's length, and on a row the buffer's. Assumes nothing.
+-- Assumes nothing.
 use Prim.Native.Nat.{ℕ, _+_, _-_, _*_, _≤_, _<_}
 use mathlib.Core.Path.{_≡_, sym, ap, _∙_, subst}
-use mathlib.Core.Logic.{_≢_, ⊎-elim}
+use mathlib.Core.Logic.{⊎-elim}
 use mathlib.Core.List.{List, _++_, append-assoc}
 use native.Mathlib.Nat.{mul-le-mul-right, suc-mul, eq-or-lt-of-le}
 use native.Mathlib.Omega.{arith}
 use native.Mathlib.Decide.{decLt}
 use lib.ListN.{length, take, drop, length-append, length-drop, take-append-drop}
 use lib.Seq.{length-take-le, take-append-le, drop-append-le, take-at, drop-at, drop-drop}
-use Rattle.words.specs.declared.Gate.{Gate}
-use Rattle.words.specs.Gates.{conjKey}
-use Rattle.words.specs.Rows.{rowCount, rowAt, conjRow}
-use Rattle.words.proofs.GateLaws.{conjKey-length}
-use Rattle.words.proofs.RowSteps.{row-fits, row-in, row-past}
 
 -- ---- rows of s words
 
@@ -71,29 +66,3 @@ module _ (s : ℕ) (ws : List ℕ) (i : ℕ) (k : List ℕ) (room : i * s + s �
           part-prefix s (take (i * s) ws) (k ++ drop (i * s + s) ws) j r
           ∙ sym (part-prefix s (take (i * s) ws) (drop (i * s) ws) j r) ∙ ap (λ (z : List ℕ). part s z j) (take-append-drop (i * s) ws)
       go (no l) = let m : i ≤ j = omega arith in ap (take s) (drop-more (i * s + s) (j * s) (withPart s ws i k) ws (row-before s (after m n)) drop-withPart)
-
--- ---- a gate on a row: the length, the row itself, and every other row
-
-module _ (g : Gate) (w a b r : ℕ) (ws : List ℕ) where
-  abbrev new : List ℕ
-  new = conjKey g w a b (rowAt w r ws)
-
-  new-long : r < rowCount w ws → length new ≡ 2 * w
-  new-long h = conjKey-length g w a b (rowAt w r ws) ∙ length-part (2 * w) ws r (row-fits (length ws) w r h)
-
-  pub conjRow-length : length (conjRow g w a b r ws) ≡ length ws
-  conjRow-length = go (decLt r (rowCount w ws))
-    where
-      go : Dec (r < rowCount w ws) → length (conjRow g w a b r ws) ≡ length ws
-      go (yes h) = ap length (row-in w r ws g a b h) ∙ length-withPart (2 * w) ws r new (row-fits (length ws) w r h) (new-long h)
-      go (no h) = ap length (row-past w r ws g a b (omega arith))
-
-  pub conjRow-same : r < rowCount w ws → rowAt w r (conjRow g w a b r ws) ≡ conjKey g w a b (rowAt w r ws)
-  conjRow-same h = ap (rowAt w r) (row-in w r ws g a b h) ∙ part-same (2 * w) ws r new (row-fits (length ws) w r h) (new-long h)
-
-  pub conjRow-other : (j : ℕ) → j ≢ r → j < rowCount w ws → rowAt w j (conjRow g w a b r ws) ≡ rowAt w j ws
-  conjRow-other j ne hj = go (decLt r (rowCount w ws))
-    where
-      go : Dec (r < rowCount w ws) → rowAt w j (conjRow g w a b r ws) ≡ rowAt w j ws
-      go (yes h) = ap (rowAt w j) (row-in w r ws g a b h) ∙ part-other (2 * w) ws r new (row-fits (length ws) w r h) (new-long h) j ne
-      go (no h) = ap (rowAt w j) (row-past w r ws g a b (omega arith))

@@ -19,7 +19,7 @@ pub enum Gate {
     Swap,
 }
 
-// The x and z bits of a word at the two targets a and b of a gate.
+// The x and z bits of a word at the two targets a and b of a gate, of which the contracts speak.
 pub struct Bits {
     pub xa: bool,
     pub za: bool,

@@ -1,21 +1,30 @@
 -- `conjugate_row` meets its contract: the row goes through the gate, and its coefficient is turned by the phase. Assumes nothing.
+use native.Mathlib.Omega.{arith}
 use denote.Ref.{now}
-use Rattle.sums.proofs.GateRows.{gate-row}
 use borrow.Author.Needs.{needs}
+use Prim.Native.Nat.{_+_, _*_, _≤_, _<_}
+use lib.ListN.{length, length-set}
+use Rattle.rows.proofs.ClearLaws.{row-room}
+use Rattle.sums.proofs.GateRows.{gate-row}
 use Rattle.sums.proofs.gates.conjugate_row.Statement.{statement}
 use Rattle.sums.proofs.gates.conjugate_row.Tie as tie
 
+-- the row lies within both buffers
+room : (s : tie.Start) → (s .args .i * (2 * s .args .w) + 2 * s .args .w ≤ length (now (s .args .words))) × (2 * s .args .i + 1 < length (now (s .args .coeffs)))
+room s = row-room (s .args .w) (s .args .i) (now (s .args .words)) (now (s .args .coeffs)) (s .pre)
+
 returns : tie.Need-returns
 returns c =
-    let u = c .before .before .before in
-    let v = u .before .before in
-    let r = v .before .before .before .before in
-    let a = r .before .before .before .before .args in
-    gate-row (a .gate) (a .w) (a .a) (a .b) (a .i) (now (a .words)) (now (a .coeffs)) (r .before .before .before .before .pre)
-    (r .conjugate-row .ensures .0) (r .conjugate-row .ensures .1) (v .value-at .ensures) (u .turned .ensures) (c .before .before .store-value .ensures)
+    let k = c .before .before .before .before .before in
+    let a = k .before .before .before .before .args in
+    gate-row (a .gate) (a .w) (a .a) (a .b) (a .i) (now (a .words)) (now (a .coeffs)) (k .conjugate-key .ensures .0) (k .conjugate-key .ensures .1) (c .turned .ensures)
 
 pub conjugate-row-spec : {M : Type 1} → statement M
 conjugate-row-spec =
     tie.close
     (tie.spec
-    (λ c κs. search needs) (λ c κs. search needs) (λ c κs. search needs) (λ c κs. search needs) (λ c. search needs) (λ c. search needs) returns)
+    (λ c. omega (arith, room (c .before .before))) (λ c. omega (arith, room (c .before .before))) (λ c. omega (arith, room (c .before .before)))
+    (λ c. omega (arith, room (c .before .before))) (λ c. search needs) (λ c. search needs) (λ c. room (c .before .before) .0) (λ c κs. search needs)
+    (λ c. search needs) (λ c. search needs) (λ c. search needs) (λ c. search needs) (λ c. search needs) (λ c. search needs) (λ c κs. search needs)
+    (λ c. search needs) (λ c. search needs) (λ c. search needs) (λ c. search needs)
+    (λ c. simp length-set (room (c .before .before .before .before .before .before .before .before .before) .1)) (λ c. search needs) (λ c. search needs) returns)

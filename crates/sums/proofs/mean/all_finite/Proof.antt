@@ -1,43 +1,41 @@
--- `all_finite` meets its contract: the coefficients before i are finite. Assumes nothing.
-use mathlib.Core.Path.{_≡_, sym, ap, _∙_}
-use Prim.Native.Nat.{ℕ, _-_, _≤_, _<_}
+-- `all_finite` meets its contract: `finite` says whether the numbers before i are finite. Assumes nothing.
+use mathlib.Core.Path.{_≡_, refl, sym, ap, _∙_}
+use Prim.Native.Nat.{ℕ, _-_, _*_, _≤_}
 use native.Mathlib.Omega.{arith}
 use denote.Ref.{now}
 use borrow.Author.Needs.{needs}
-use mathlib.Core.Bool.{true}
-use borrow.Author.Count.{below-more}
-use borrow.Author.Tests.{not-true, not-false}
-use Rattle.terms.specs.Coefficient.{finiteOf}
-use Rattle.rows.specs.Rows.{coeffAt}
-use Rattle.sums.proofs.MeanLaws.{finite-all, not-finite, missing-finite}
+use Rattle.sums.proofs.MeanLaws.{numbersFinite, one-more-finite, finite-numbers, missing-finite}
 use Rattle.sums.proofs.mean.all_finite.Statement.{statement}
 use Rattle.sums.proofs.mean.all_finite.Tie as tie
 
 abbrev Inv-loop : tie.InvT-loop
-Inv-loop coeffs n i₀ i = (i ≤ n) × ((j : ℕ) → j < i → finiteOf (coeffAt coeffs j) ≡ true)
+Inv-loop coeffs n end finite₀ i₀ finite i = (i ≤ 2 * n) × (finite ≡ numbersFinite i coeffs)
 
 abbrev μ-loop : tie.MeasureT-loop
-μ-loop coeffs n i₀ i = n - i
+μ-loop coeffs n end finite₀ i₀ finite i = 2 * n - i
 
 returns : tie.Need-returns Inv-loop μ-loop
 returns c = sym (missing-finite (c .before .before .args .n) (now (c .before .before .args .coeffs)) (c .if1 .taken))
 
-returns-2 : tie.Need-returns-2 Inv-loop μ-loop
-returns-2 c =
-    let a = c .before .before .before .before .before .before .before .args in
-    sym (not-finite (a .n) (now (a .coeffs)) (c .before .before .before .before .loop .i) (c .before .before .before .loop-test .taken)
-    (sym (c .before .finite .ensures ∙ ap finiteOf (c .before .before .value-at .ensures)) ∙ not-true _ (c .if2 .taken)))
+loop-holds : tie.Need-loop-holds Inv-loop μ-loop
+unfolding numbersFinite
+loop-holds c = (omega arith, refl)
 
 loop-again : tie.Need-loop-again Inv-loop μ-loop
-loop-again c = (omega arith, below-more _ _ (c .before .before .before .before .loop .inv .1) (sym (c .before .finite .ensures ∙ ap finiteOf (c .before .before .value-at .ensures)) ∙ not-false _ (c .if2 .left)))
+loop-again c =
+    let s = c .before .before .before .before in
+    let a = s .before .before .before .args in
+    (omega arith, cc (one-more-finite (s .loop .i) (now (a .coeffs))))
 
-returns-3 : tie.Need-returns-3 Inv-loop μ-loop
-returns-3 c =
+returns-2 : tie.Need-returns-2 Inv-loop μ-loop
+returns-2 c =
     let a = c .before .before .before .before .args in
-    let e : c .before .loop .i ≡ a .n = omega arith in
-    sym (finite-all (a .n) (now (a .coeffs)) (rw e at (c .before .loop .inv .1)))
+    let e : c .before .loop .i ≡ 2 * a .n = omega arith in
+    c .before .loop .inv .1 ∙ ap (λ (m : ℕ). numbersFinite m (now (a .coeffs))) e ∙ sym (finite-numbers (a .n) (now (a .coeffs)))
 
 pub all-finite-spec : {M : Type 1} → statement M
 all-finite-spec =
     tie.close
-    (tie.spec Inv-loop μ-loop returns (λ c. (omega arith, λ j h. absurd (omega arith))) (λ c κs. search needs) (λ c κs. search needs) returns-2 (λ c. search needs) (λ c. search needs) loop-again returns-3)
+    (tie.spec
+    Inv-loop μ-loop returns (λ c. search needs) loop-holds (λ c. search needs) (λ c. search needs) (λ c κs. search needs) (λ c κs. search needs)
+    (λ c. search needs) (λ c. search needs) loop-again returns-2)
