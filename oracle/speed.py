@@ -173,6 +173,7 @@ KINDS = {
     "path-256": (512, 256, lambda out: noisy(1, [0, 85, 170, 255], 256)),
     "all-12": (512, 12, lambda out: every(1, 12, 3, 256)),
     "all-200": (1024, 200, lambda out: every(1, 200, 3, 512)),
+    "all-most": (2 * MOST, 12, lambda out: every(1, 12, 3, MOST)),
     "peak-1e4": (2 * MOST, 40, lambda out: grown(1, 40, 620)),
     "peak-1e5": (2 * MOST, 40, lambda out: grown(1, 40, 684)),
     "peak-7e5": (2 * MOST, 40, lambda out: grown(1, 40, 706)),

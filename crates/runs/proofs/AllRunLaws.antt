@@ -30,7 +30,7 @@ use Rattle.turns.specs.declared.Ending.the-variants.{Done, Failed}
 use Rattle.turns.specs.declared.Start.the-variants.{Z}
 use Rattle.turns.specs.Turn.{Stage, refused, going, bind, ask, Outcome, outcome}
 use Rattle.turns.specs.Runs.{markAll, markedRun}
-use Rattle.turns.specs.Told.{endingOf, Ran}
+use Rattle.turns.specs.Told.{endingOf, Followed}
 use Rattle.turns.specs.Given.{isGiven, isHeld, startedRun}
 use Rattle.turns.specs.Marks.{overlay}
 use Rattle.turns.proofs.RunLaws.{bind-same}
@@ -80,7 +80,7 @@ tallied t = outcome [] zero64 [] (t .peak) (t .discarded)
 
 pub z-answers : (w : ℕ) (l : Limits) (marks : List Bool) (ops : List Op) (q : ℕ) (t : Tally) (keys : List ℕ) (weights : List Float) {r : Ending} {ws₀ ws : List ℕ} {cs₀ cs : List Float} {ix ix′ : List ℕ}
     → 1 ≤ l .limit → w ≤ 4 → q < 64 * w → 2 * l .limit ≤ rowsIn w ws₀ cs₀
-    → Ran w (isHeld w l keys weights (Z q t) (rowsIn w ws₀ cs₀)) (startedRun w l keys weights (Z q t) marks ops (rowsIn w ws₀ cs₀)) r ws₀ ws cs₀ cs ix ix′
+    → Followed w (isHeld w l keys weights (Z q t) (rowsIn w ws₀ cs₀)) (startedRun w l keys weights (Z q t) marks ops (rowsIn w ws₀ cs₀)) r ws₀ ws cs₀ cs ix ix′
     → Answers w r ws₀ ws cs₀ cs (markedRun w l marks ops (zState w q (tallied t)))
 z-answers w l marks ops q t keys weights {r} {ws₀} {ws} {cs₀} {cs} some narrow low room R =
     let run : Stage Outcome = markedRun w l marks ops (zState w q (tallied t)) in

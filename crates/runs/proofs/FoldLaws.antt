@@ -31,7 +31,7 @@ use Rattle.turns.specs.declared.Tally.{Tally}
 use Rattle.turns.specs.Turn.{Stage, refused, going, bind, ask, Outcome, outcome}
 use Rattle.turns.specs.Runs.{markedRun, begin}
 use Rattle.turns.specs.Given.{isGiven, isHeld, startedRun, startState}
-use Rattle.turns.specs.Told.{tally, endingOf, leftBy, Ran}
+use Rattle.turns.specs.Told.{tally, endingOf, leftBy, Followed}
 use Rattle.turns.proofs.RunLaws.{bind-same, bind-bind, bind-going}
 use Rattle.turns.proofs.TurnLaws.{emptied}
 use Rattle.runs.specs.declared.fold.Folded.{Folded}
@@ -89,7 +89,7 @@ module _ (qubits : ℕ) (l : Limits) (keys : List ℕ) (weights : List Float) (k
   }
 
   pub line-added : (at : Folded) (m : Float) (t : Tally) {x : Float} {end : Ending} {r : Folded} {ws′ : List ℕ} {cs′ : List Float} {ix ix′ : List ℕ} → at ≡ Held m t
-      → Ran w (isHeld w l keys weights (Alone i) (rowsIn w ws cs)) (startedRun w l keys weights (Alone i) ms ops (rowsIn w ws cs)) end ws ws′ cs cs′ ix ix′
+      → Followed w (isHeld w l keys weights (Alone i) (rowsIn w ws cs)) (startedRun w l keys weights (Alone i) ms ops (rowsIn w ws cs)) end ws ws′ cs cs′ ix ix′
       → x ≡ getD weights i nan → r ≡ added m t x end
       → Totals w (bind (heldIn at) (addNext task ms (lineAt w keys weights i))) r ws ws′ cs cs′
   line-added at m t {x} {end} {r} {ws′} {cs′} e R wt a =

@@ -64,7 +64,7 @@ fn run_z(
 {
     let keys = [0u64; 1];
     let weights = [0.0; 1];
-    run::run_marked(
+    run::run_followed(
         Start::Z(q, tally),
         &keys,
         &weights,

@@ -17,7 +17,7 @@ use turns::Limits;
 use turns::Start;
 use turns::Tally;
 use turns::peaks::larger;
-use turns::run::run_marked;
+use turns::run::run_followed;
 
 // The totals so far, or the refusal of one line.
 pub(crate) enum Folded {
@@ -74,7 +74,7 @@ fn fold_line(
     let Folded::Held(mean, tally) = at else {
         return at;
     };
-    let end = run_marked(
+    let end = run_followed(
         Start::Alone(i),
         keys,
         weights,

@@ -2,10 +2,9 @@
 ghost use mathlib.Core.Path.{_≡_};
 ghost use mathlib.Core.Bool.{cond};
 ghost use lib.Ieee.{neg};
-ghost use Rattle.terms.specs.Coefficient.{scaledOf, turnedOf, flippedOf, plusOf, sizeOf, finiteOf};
+ghost use Rattle.terms.specs.Coefficient.{scaledOf, turnedOf, flippedOf, plusOf, sizeOf};
 use crate::Complex64;
 use numbers::tests::absolute;
-use numbers::tests::is_finite;
 
 // x or y. A choice of two values has no branch in the compiled code, which a quarter turn of many rows would often predict wrongly.
 fn chosen(on: bool, x: f64, y: f64) -> f64
@@ -74,11 +73,5 @@ impl Complex64 {
         } else {
             absolute(self.re)
         }
-    }
-
-    pub fn finite(self) -> bool
-        ensures { λ r. ⌜ r ≡ finiteOf self ⌝ }
-    {
-        is_finite(self.re) && is_finite(self.im)
     }
 }

@@ -31,7 +31,7 @@ use Rattle.turns.specs.declared.Start.{Start}
 use Rattle.turns.specs.Given.{startState, isGiven, isHeld, startedRun}
 use Rattle.turns.specs.Turn.{Stage, refused, going, bind, ask, State, state, Outcome, finish}
 use Rattle.turns.specs.Runs.{step, runs, markedRun}
-use Rattle.turns.specs.Told.{turnedOf, termsOf, stageIn, countOf, endingOf, leftBy, endCount, Ready, Tells, Ends, Ran}
+use Rattle.turns.specs.Told.{turnedOf, termsOf, stageIn, countOf, endingOf, leftBy, endCount, Ready, Tells, Ends, Ran, Followed}
 use Rattle.turns.proofs.TurnLaws.{long}
 
 -- ---- stages
@@ -204,3 +204,32 @@ module _ (w : ℕ) (l : Limits) (start : Start) (keys : List ℕ) (weights : Lis
         rows = λ e. step-holds w rows rows 0 S full (le-refl rows) (let f = E .few in omega (arith, f, room))
             (subst (All (Keyed (2 * w))) (E .rows .terms) (keyed-in w (length (leftBy run)) ws′ cs′ (room-less (let f = E .few in omega (arith, f, room)) (held-room (E .rows) (rows-room w rows ws cs (le-refl rows))))));
       }))
+
+-- ---- a run that another follows
+
+module _ (w : ℕ) (l : Limits) (start : Start) (keys : List ℕ) (weights : List Float) (ms : List Bool) (ops : List Op) (ws : List ℕ) (cs : List Float) (ix : List ℕ) where
+  abbrev room : ℕ
+  room = rowsIn w ws cs
+
+  abbrev Leads : Bool → Bool → Ending → List ℕ → List Float → List ℕ → Type 0
+  Leads g h r ws′ cs′ ix′ = Followed w (g && h) (ask 2 g (ask 7 h (markedRun w l ms ops (startState w keys weights start)))) r ws ws′ cs cs′ ix ix′
+
+  abbrev nothing : false ≡ false → (ws ≡ ws) × ((cs ≡ cs) × (ix ≡ ix))
+  nothing e = (refl, (refl, refl))
+
+  pub followed-2 : isGiven w (l .limit) keys weights start ≡ false → Followed w (isHeld w l keys weights start room) (startedRun w l keys weights start ms ops room) (Failed 2) ws ws cs cs ix ix
+  followed-2 g = subst⁻¹ (λ (b : Bool). Leads b (leb (2 * l .limit) room) (Failed 2) ws cs ix) g (record { answer = refl; rows = λ e. absurd (false≢true e); untouched = nothing })
+
+  pub followed-7 : {r : ℕ} → isGiven w (l .limit) keys weights start ≡ true → r ≡ room → r / 2 < l .limit
+      → Followed w (isHeld w l keys weights start room) (startedRun w l keys weights start ms ops room) (Failed 7) ws ws cs cs ix ix
+  followed-7 g e h = subst⁻¹ (λ (b : Bool). Leads b (leb (2 * l .limit) room) (Failed 7) ws cs ix) g
+      (subst⁻¹ (λ (b : Bool). Leads true b (Failed 7) ws cs ix) (twice-no w (l .limit) ws cs e h) (record { answer = refl; rows = λ e. absurd (false≢true e); untouched = nothing }))
+
+  pub followed-on : {r : ℕ} {end : Ending} {ws′ : List ℕ} {cs′ : List Float} {ix′ : List ℕ} → isGiven w (l .limit) keys weights start ≡ true → r ≡ room → l .limit ≤ r / 2
+      → Ends w l end ws ws′ cs cs′ (markedRun w l ms ops (startState w keys weights start))
+      → Followed w (isHeld w l keys weights start room) (startedRun w l keys weights start ms ops room) end ws ws′ cs cs′ ix ix′
+  followed-on {r} {end} {ws′} {cs′} {ix′} g e h E =
+      let yes = twice-yes w (l .limit) ws cs e h in
+      subst⁻¹ (λ (b : Bool). Leads b (leb (2 * l .limit) room) end ws′ cs′ ix′) g
+      (subst⁻¹ (λ (b : Bool). Leads true b end ws′ cs′ ix′) yes
+      (record { answer = E .answer; rows = λ e. hold-wide (leb-true (2 * l .limit) room yes) (E .rows); untouched = λ e. absurd (false≢true (sym e)) }))

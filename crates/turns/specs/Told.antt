@@ -1,6 +1,6 @@
 -- What the answer of a function and the rows tell of a run.
 use mathlib.Core.Path.{_≡_}
-use mathlib.Core.Bool.{Bool, true, cond, _&&_}
+use mathlib.Core.Bool.{Bool, true, false, cond, _&&_}
 use mathlib.Core.List.{List, []}
 use Prim.Native.Nat.{ℕ, _*_, _≤_, max}
 use lib.Dec.{leb}
@@ -104,6 +104,12 @@ pub record Ran (w : ℕ) (held : Bool) (run : Stage Outcome) (r : Ending) (ws ws
   pub index : ix′ ≡ cond held (replicate (length ix) 0) ix
   -- the terms read back, and what lies past the rows as it was
   pub rows : held ≡ true → Holds (2 * w) (rowsIn w ws cs) (length (leftBy run)) (leftBy run) ws ws′ cs cs′
+
+-- the same of a run that another follows in the same memory: past the terms that it leaves, the rows and the index are free
+pub record Followed (w : ℕ) (held : Bool) (run : Stage Outcome) (r : Ending) (ws ws′ : List ℕ) (cs cs′ : List Float) (ix ix′ : List ℕ) : Type 0 where
+  pub answer : r ≡ endingOf run
+  pub rows : held ≡ true → Holds (2 * w) (rowsIn w ws cs) (length (leftBy run)) (leftBy run) ws ws′ cs cs′
+  pub untouched : held ≡ false → (ws′ ≡ ws) × ((cs′ ≡ cs) × (ix′ ≡ ix))
 
 -- r terms in at most 2 * n rows, where the words have the targets qs: what an op makes of them; else all as it was
 abbrev pub Applied : ℕ → ℕ → List ℕ → List Term → ℕ → List ℕ → List ℕ → List Float → List Float → Type 0

@@ -18,7 +18,7 @@ returns-2 : tie.Need-returns-2
 returns-2 c = let s = c .before .before .before .before .before .before .before .before .before .before .before .before .before .before .before .before .before .before .before .before .before .before .before in
     let a = s .args in
     let p = s .pre in
-    line-added (a .qubits) (a .limits) (now (a .keys)) (now (a .weights)) (a .i + 1) (opList (a .n) (now (a .codes)) (now (a .reals))) (now (a .marks)) (a .i) (now (a .words)) (now (a .coeffs)) (a .w) (p .0) (omega arith) (p .1) (a .at) _ _ (c .before .before .before .before .before .before .before .before .before .before .before .before .before .at .given .1) (c .before .before .before .before .before .before .before .before .run-marked .ensures) (c .before .weight-at .ensures) (c .add-line .ensures)
+    line-added (a .qubits) (a .limits) (now (a .keys)) (now (a .weights)) (a .i + 1) (opList (a .n) (now (a .codes)) (now (a .reals))) (now (a .marks)) (a .i) (now (a .words)) (now (a .coeffs)) (a .w) (p .0) (omega arith) (p .1) (a .at) _ _ (c .before .before .before .before .before .before .before .before .before .before .before .before .before .at .given .1) (c .before .before .before .before .before .before .before .before .run-followed .ensures) (c .before .weight-at .ensures) (c .add-line .ensures)
 
 pub fold-line-spec : {M : Type 1} → statement M
 fold-line-spec =
