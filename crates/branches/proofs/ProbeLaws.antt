@@ -1,6 +1,6 @@
 -- The key looked for from a row, word by word, and what the functions on one key compute. Assumes nothing.
 use mathlib.Core.Path.{_≡_, refl, sym, ap, ap₂, _∙_, subst}
-use mathlib.Core.Bool.{Bool, true, false, not, cond, _||_}
+use mathlib.Core.Bool.{Bool, true, false, not, cond}
 use mathlib.Core.Logic.{⊎-elim}
 use mathlib.Core.List.{List}
 use Prim.Native.Nat.{ℕ, _+_, _-_, _*_, _/_, _%_, _^_, _≤_, _<_, min}
@@ -18,7 +18,7 @@ use Rattle.words.proofs.KeyLaws.{flipAt-length, flipAt-word, flipAt-other-word,
 use Rattle.terms.specs.declared.Axis.{Axis}
 use Rattle.terms.specs.declared.Axis.the-variants.{Z, Zz}
 use Rattle.terms.specs.Lists.{tab}
-use Rattle.terms.specs.Rotation.{metBy, partnerBy, onKey}
+use Rattle.terms.specs.Rotation.{metBy, partnerBy}
 use Rattle.terms.proofs.CaseLaws.{eq-or-ne, lt-or-le}
 use Rattle.terms.proofs.AxisLaws.{partner-back, partner-length}
 use Rattle.terms.proofs.ListLaws.{length-tab, getD-tab, tab-ext}

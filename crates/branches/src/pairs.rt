@@ -3,13 +3,11 @@
 ghost use mathlib.Core.Path.{_≡_};
 ghost use mathlib.Core.Bool.{true};
 ghost use Prim.Native.Nat.{_+_, _*_, _≤_, _<_};
-ghost use lib.ListN.{length, getD, set};
+ghost use lib.ListN.{length, getD};
 ghost use Rattle.words.specs.Keys.{sameKey};
 ghost use Rattle.terms.specs.Rotation.{metBy, partnerBy, onKey};
 ghost use Rattle.terms.specs.Branch.{first};
 ghost use Rattle.rows.specs.Rows.{keyAt};
-ghost use Rattle.branches.specs.declared.Sought.the-variants.{Partner};
-ghost use Rattle.branches.specs.Chains.{bucketOf, classOf, pushed};
 ghost use Rattle.branches.specs.Pairs.{mateOf, joined, begun, Pairing, Tabled, Roomy};
 use crate::Sought;
 use crate::chains;

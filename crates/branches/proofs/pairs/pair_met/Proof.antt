@@ -1,7 +1,7 @@
 -- `pair_met` meets its contract: it joins its partner, or a row before it has its key, or it begins a pair. Assumes nothing.
-use mathlib.Core.Path.{_≡_, sym, subst}
+use mathlib.Core.Path.{sym, subst}
 use mathlib.Core.Bool.{false≢true}
-use Prim.Native.Nat.{_+_, _*_, _<_}
+use Prim.Native.Nat.{_+_, _*_}
 use native.Mathlib.Omega.{arith}
 use denote.Ref.{now}
 use Rattle.rows.proofs.RowLaws.{row-before}
