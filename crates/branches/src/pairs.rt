@@ -1,5 +1,5 @@
 // The table of partners of a rotation, made by one pass over the rows that it meets. Its memory has the buckets and the links of chains, and
-// then a number for each row: two more than the row's partner, or 0 or 1 if it has none. A chain has the first row of each pair.
+// then a number for each row that is met: two more than its partner, or 1 if it has none. A chain has the first row of each pair.
 ghost use mathlib.Core.Path.{_≡_};
 ghost use mathlib.Core.Bool.{true};
 ghost use Prim.Native.Nat.{_+_, _*_, _≤_, _<_};
