@@ -2,9 +2,10 @@
 """Check fixed sheets: cases.py PROGRAM [--raw ORACLE]
 
 PROGRAM is a command that speaks the stream format. The sheets are document
-01's cases A to J, the examples of the readings, and the sheets at which
-prism-q differs from document 01. With --raw, the last are also put to
-prism-q alone (`ORACLE --raw`), to check what it says there.
+01's cases A to J, the examples of the readings, the sheets at which prism-q
+differs from document 01, and the examples of document 02's change requests.
+With --raw, those where prism-q differs are also put to prism-q alone
+(`ORACLE --raw`), to check what it says there.
 """
 
 import argparse
@@ -118,15 +119,16 @@ CASES += [
     ("sine and cosine 0", sheet(["X0"], ["rz:0:%s,%s" % (ZERO, ZERO)]), ok(t_count=1)),
 ]
 
-# Where prism-q differs: document 01's answer, then what prism-q alone says.
+# Where prism-q differs (but for 2 and 3, where it does not look at a later line
+# either): document 01's answer, then what prism-q alone says.
 ANSWERS, PANICS = "#prism-q answers", "#prism-q panics"
 QUBIT, PARAMETER = "#prism-q: InvalidQubit", "#prism-q: InvalidParameter"
 CEILING = "#prism-q: BackendUnsupported"
 BIG = LARGEST + ":"
 DIFFERENCES = [
     ("1, 5 before 6 in one term", sheet(["X0,X0,X1"]), no(5, 7), PARAMETER),
-    ("2, 5 before 6 over terms", sheet(["X0,X0", "X1"]), no(5, 8), PARAMETER),
-    ("3, 5 of an op before a term's 6", sheet(["X0,X0"], ["h:1"]), no(5, 9), PARAMETER),
+    ("2, a term's 6 before a later term's 5", sheet(["X0,X0", "X1"]), no(6, 7), PARAMETER),
+    ("3, a term's 6 before an op's 5", sheet(["X0,X0"], ["h:1"]), no(6, 7), PARAMETER),
     ("4, an op's qubit outside", sheet(ops=["h:1"]), no(5, 9), ANSWERS),
     ("5, an op's qubit past the words", sheet(ops=["h:64"]), no(5, 9), PANICS),
     ("6, cx on one qubit twice", sheet(ops=["cx:0,0"]), no(6, 9), ANSWERS),
@@ -168,6 +170,29 @@ DIFFERENCES = [
 ]
 
 
+def thirty(eighth, last):
+    """A sheet of 30 lines on two qubits, with what stands on its lines 8 and 30."""
+    return sheet(["Z0", eighth], ["h:1"] * 20 + [last], 2)
+
+
+# Document 02's change requests, one after the other.
+CHANGED = [
+    ("2026-01, a repeat on line 8, outside on line 30", thirty("X0,Y0", "h:2"), no(6, 8)),
+    ("2026-01, outside on line 8, a repeat on line 30", thirty("X2", "cx:1,1"), no(5, 8)),
+    ("2026-01, a repeat before an outside qubit on line 8", thirty("X0,Y0,Z2", "h:1"), no(5, 8)),
+    ("2026-01, outside before a repeat on line 8", thirty("Z2,X0,Y0", "h:1"), no(5, 8)),
+    ("2026-01, one target outside, twice", thirty("X0", "cx:2,2"), no(5, 30)),
+    ("2026-01, the same qubit outside twice on line 8", thirty("X2,Z2", "h:1"), no(5, 8)),
+    ("2026-01, qubit 256 twice on line 8", thirty("X256,Z256", "h:1"), no(5, 8)),
+    ("2026-01, a repeat on each line", thirty("X1,X1", "cz:0,0"), no(6, 8)),
+    ("2026-01, a repeat on line 30", thirty("X1", "cz:0,0"), no(6, 30)),
+    ("2026-01, an op's repeat before an op outside", sheet(["Z0"], ["swap:1,1", "h:2"], 2), no(6, 9)),
+    ("2026-01, an op outside before an op's repeat", sheet(["Z0"], ["h:2", "swap:1,1"], 2), no(5, 9)),
+    ("2026-01, 4 of a later line before both", sheet(["X0,X0", NAN + ":X2"], [], 2), no(4, 8)),
+    ("2026-01, 6 before 7", sheet(["X0,X0", "X2"], [], 2, limit=257), no(6, 7)),
+]
+
+
 def answers(command, texts):
     data = b"".join(b"#sheet %d\n" % len(text) + text for text in texts)
     out = subprocess.run(command, input=data, stdout=subprocess.PIPE, check=True).stdout.decode()
@@ -194,7 +219,7 @@ def main():
     parser.add_argument("program")
     parser.add_argument("--raw", help="the oracle, to ask prism-q alone")
     given = parser.parse_args()
-    wanted = CASES + [(name, text, lines) for name, text, lines, _ in DIFFERENCES]
+    wanted = CASES + [(name, text, lines) for name, text, lines, _ in DIFFERENCES] + CHANGED
     got = answers(shlex.split(given.program), [text for _, text, _ in wanted])
     bad = 0
     for (name, text, lines), found in zip(wanted, got):

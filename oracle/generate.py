@@ -3,10 +3,12 @@
 
   generate.py --seed 1 --count 10000 [--kinds small=4,wide=1] > stream
   generate.py --seed 1 --count 10000 --refused > stream
+  generate.py --seed 1 --count 10000 --qubits > stream
 
 The first form writes sheets that pass questions 1 to 7 (but for a few terms
 with one qubit outside or repeated); the second writes sheets with faults of
-every class, 1 to 8, and a few with more than one.
+every class, 1 to 8, and a few with more than one; the third writes sheets with
+several qubits outside or repeated, on one line and on different ones.
 """
 
 import argparse
@@ -381,6 +383,13 @@ class Maker:
         self.spoil(sheet, first)
         return sheet.text()
 
+    def several(self):
+        """A sheet with two to five faults of questions 5 and 6, as bytes."""
+        sheet = self.sheet(self.choice(["small", "small", "wide", "noise", "exact"]))
+        for _ in range(self.random.randint(2, 5)):
+            self.spoil(sheet, self.choice([5, 6]))
+        return sheet.text()
+
     def spoil(self, sheet, status):
         getattr(self, "spoil_%d" % status)(sheet)
 
@@ -639,6 +648,7 @@ def main():
     parser.add_argument("--count", type=int, default=1000)
     parser.add_argument("--kinds", default=DEFAULT, help="kind=share,.. of " + DEFAULT)
     parser.add_argument("--refused", action="store_true")
+    parser.add_argument("--qubits", action="store_true")
     given = parser.parse_args()
     maker = Maker(given.seed)
     shares = dict(part.split("=") for part in given.kinds.split(","))
@@ -648,6 +658,8 @@ def main():
     while written < given.count:
         if given.refused:
             texts = [maker.refused()]
+        elif given.qubits:
+            texts = [maker.several()]
         else:
             kind = maker.random.choices(kinds, weights)[0]
             texts = [sheet.text() for sheet in maker.group(kind)]

@@ -289,11 +289,10 @@ pub fn refusal(sheet: &Sheet, rows: u64, means: u64) -> Option<(u32, usize)> {
             return Some((status, line));
         }
     }
+    // 5 and 6 line by line, 5 before 6 on one line (2026-01).
     let faults = faults(sheet);
-    for status in [5, 6] {
-        if let Some(fault) = faults.iter().find(|fault| fault.status == status) {
-            return Some((status, fault.line));
-        }
+    if let Some(first) = faults.iter().min_by_key(|fault| (fault.line, fault.status)) {
+        return Some((first.status, first.line));
     }
     let short = rows < 2 * sheet.limit || (sheet.run == "all" && means < sheet.qubits);
     short.then_some((7, 0))

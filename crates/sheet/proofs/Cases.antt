@@ -27,7 +27,7 @@ use Rattle.lines.specs.TermLines.{isFactor, areFactors, factorTexts, isTerm, fa
 use Rattle.lines.specs.OpLines.{nameOf, targetsIn, realsIn, opAfter, op}
 use Rattle.layout.specs.Layout.{headKind, laterKind, kind, isLaidOut, badLine, headOf}
 use Rattle.replies.specs.Printed.{zLines, printed}
-use Rattle.sheet.specs.Questions.{firstOf, verdict}
+use Rattle.sheet.specs.Questions.{firstOf, firstFault, verdict}
 use Rattle.sheet.specs.Answer.{printedOf}
 
 -- opens the definitions that the cases compute
@@ -36,7 +36,7 @@ unfolding neg add sub mul div lt le eq ofBits toBits sqrtOf ruled shownOf bitOf 
     addTo conjugated allFinite countY termOf share metBy partnerBy appendedRows rotated dampAction actionOf insert scaledLocal channeled keptOf tCount
     onWords act checked settle ended finish runs markedRun member touches coneOf markCone every lettersBelow termsOf foldLines allRuns onFirst parts
     index begins steps nextDigit decimal hexDigit nextHex hex16 decimalText hexText runField isFactor areFactors factorTexts isTerm factorOf lineOn
-    placed nameOf targetsIn realsIn opAfter op headKind laterKind kind isLaidOut badLine headOf zLines printed distinct firstOf verdict printedOf
+    placed nameOf targetsIn realsIn opAfter op headKind laterKind kind isLaidOut badLine headOf zLines printed distinct firstOf firstFault verdict printedOf
 computed = tt
 
 pub record Row : Type 0 where

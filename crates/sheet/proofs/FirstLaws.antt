@@ -19,7 +19,7 @@ use Rattle.lines.specs.TermLines.{lineOn}
 use Rattle.turns.specs.declared.Op.{Op}
 use Rattle.sheet.specs.declared.Asked.{Asked}
 use Rattle.sheet.specs.Questions.{Question, questionOf, firstOf, _orElse_, headLine, opsLine, lineOf}
-use Rattle.sheet.specs.Asking.{termTest, Ready}
+use Rattle.sheet.specs.Asking.{Sound}
 
 -- a search that has passed i elements, the first of which stands at line k
 module _ {A : Type 0} (p : A → Bool) (k : ℕ) (l : List A) (i : ℕ) (inv : firstOf p (k + i) (drop i l) ≡ firstOf p k l) where
@@ -66,7 +66,7 @@ pub ops-next : (q : Question) (t : ℕ) (os : List Op) (r : Bool) (n : ℕ) → 
 ops-next q t os r n e f g = g ∙ sym (ap (λ (b : Bool). cond (eqb (cond b 0 (7 + t)) 0) (firstOf (q .op) (8 + t) os) (cond b 0 (7 + t))) (sym e ∙ f))
 
 -- the lines of the head, the `term` lines, the ops
-pub line-is : (a : Asked) (h : Head) (ls : List (List ℕ)) (os : List Op) → Ready a h ls os → (x y z u r : ℕ) → z ≡ opsLine (questionOf a h) (h .terms) os
-    → y ≡ firstOf (termTest a h) 7 (termLines h ls) → x ≡ headLine (questionOf a h) → u ≡ (y orElse z) → r ≡ (x orElse u) → r ≡ lineOf a h ls
-line-is a h ls os ready x y z u r ez ey ex eu er =
-    er ∙ ap₂ _orElse_ ex (eu ∙ ap₂ _orElse_ (ey ∙ ready .test) (ez ∙ ap (opsLine (questionOf a h) (h .terms)) (ready .sound .table)))
+pub line-is : (a : Asked) (h : Head) (ls : List (List ℕ)) (os : List Op) → Sound h ls os → (x y z u r : ℕ) → z ≡ opsLine (questionOf a h) (h .terms) os
+    → y ≡ firstOf (questionOf a h .term) 7 (termLines h ls) → x ≡ headLine (questionOf a h) → u ≡ (y orElse z) → r ≡ (x orElse u) → r ≡ lineOf a h ls
+line-is a h ls os sound x y z u r ez ey ex eu er =
+    er ∙ ap₂ _orElse_ ex (eu ∙ ap₂ _orElse_ ey (ez ∙ ap (opsLine (questionOf a h) (h .terms)) (sound .table)))

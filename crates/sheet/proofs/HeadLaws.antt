@@ -7,7 +7,6 @@ use Rattle.runs.specs.declared.Run.{Run}
 use Rattle.turns.specs.declared.Op.{Op}
 use Rattle.lines.specs.TermLines.{TermLine}
 use Rattle.sheet.specs.declared.Asked.{Asked}
-use Rattle.sheet.specs.Asking.{termTest}
 use Rattle.sheet.specs.Questions.{Question, questionOf, headLine, unless, _orElse_}
 
 -- a test of a question, by its number
@@ -47,5 +46,5 @@ fifth-line q a b c fa fb fc ga gb gc = rw (← fa, ga, ← fb, gb, ← fc, gc)
 pub by-asked-op : (a b : Asked) (h : Head) (o : Op) (r : Bool) → a ≡ b → r ≡ questionOf b h .op o → r ≡ questionOf a h .op o
 by-asked-op a b h o r e g = g ∙ ap (λ (x : Asked). questionOf x h .op o) (sym e)
 
-pub by-asked-term : (a b : Asked) (h : Head) (l : TermLine) (r : Bool) → a ≡ b → r ≡ termTest b h l → r ≡ termTest a h l
-by-asked-term a b h l r e g = g ∙ ap (λ (x : Asked). termTest x h l) (sym e)
+pub by-asked-term : (a b : Asked) (h : Head) (l : TermLine) (r : Bool) → a ≡ b → r ≡ questionOf b h .term l → r ≡ questionOf a h .term l
+by-asked-term a b h l r e g = g ∙ ap (λ (x : Asked). questionOf x h .term l) (sym e)

@@ -5,6 +5,7 @@ pub mod PassLaws
 pub mod SheetDemand
 pub mod SheetConeCases
 pub mod FirstLaws
+pub mod FaultLaws
 pub mod RunLaws
 pub mod OutcomeLaws
 pub mod VerdictLaws

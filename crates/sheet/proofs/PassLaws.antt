@@ -28,11 +28,11 @@ use Rattle.lines.proofs.WordLaws.{letters-of-word}
 use Rattle.layout.specs.declared.Head.{Head}
 use Rattle.layout.specs.Layout.{headOf, question1, termLines, opList}
 use Rattle.layout.proofs.LaidLaws.{term-lines-length, op-list-length}
-use Rattle.sheet.specs.declared.Asked.the-variants.{Two, Three, Four, Five, Six}
+use Rattle.sheet.specs.declared.Asked.the-variants.{Two, Three, Four}
 use Rattle.sheet.specs.declared.Verdict.{Verdict}
 use Rattle.sheet.specs.declared.Verdict.the-variants.{RefusedAt, Passed}
 use Rattle.sheet.specs.Questions.{Question, question2, question3, question4, question5, question6, question7}
-use Rattle.sheet.specs.Questions.{countFits, weightFits, channelFits, placesFit, _orElse_, unless, firstOf, headLine, opsLine, firstNo, refusedOr, lineOf, verdict}
+use Rattle.sheet.specs.Questions.{countFits, weightFits, channelFits, placesFit, _orElse_, unless, firstOf, headLine, opsLine, firstNo, refusedOr, lineOf, faultOf, firstFault, opFault, roomVerdict, verdict}
 use Rattle.sheet.specs.Answer.{taskOf}
 
 -- ---- the verdict
@@ -54,14 +54,39 @@ last-passed : (b : Bool) → cond b Passed (RefusedAt 7 0) ≡ Passed → b ≡ 
 last-passed true h = refl
 last-passed false h = absurd (not-passed 7 0 h)
 
+-- a walk line by line that no line ends: neither question fails at any
+faults-none : {A : Type 0} (p q : A → Bool) (k : ℕ) (l : List A) (v : Verdict) → firstFault (λ a. faultOf (p a) (q a)) k l v ≡ Passed
+    → (every p l ≡ true) × ((every q l ≡ true) × (v ≡ Passed))
+unfolding firstFault every
+faults-none p q k [] v h = (refl, (refl, h))
+faults-none p q k (a ∷ l) v h = go (p a) (q a) h (faults-none p q (suc k) l v)
+  where
+    go : (x y : Bool) → cond (eqb (faultOf x y) 0) (firstFault (λ a. faultOf (p a) (q a)) (suc k) l v) (RefusedAt (faultOf x y) k) ≡ Passed
+        → (firstFault (λ a. faultOf (p a) (q a)) (suc k) l v ≡ Passed → (every p l ≡ true) × ((every q l ≡ true) × (v ≡ Passed)))
+        → ((x && every p l) ≡ true) × (((y && every q l) ≡ true) × (v ≡ Passed))
+    go true true h f = f h
+    go true false h f = absurd (not-passed _ k h)
+    go false true h f = absurd (not-passed _ k h)
+    go false false h f = absurd (not-passed _ k h)
+
+-- each answer is yes
+pub record Yes (q : Question) (ls : List TermLine) (os : List Op) : Type 0 where
+  pub qubits : q .qubits ≡ true
+  pub epsilon : q .epsilon ≡ true
+  pub limit : q .limit ≡ true
+  pub terms : q .terms ≡ true
+  pub term : every (q .term) ls ≡ true
+  pub ops : q .ops ≡ true
+  pub op : every (q .op) os ≡ true
+
 -- no question fails
 pub record Answers (h : Head) (ls : List (List ℕ)) (rows places : ℕ) : Type 0 where
   pub laid : question1 h ls ≡ 0
   pub two : lineOf Two h ls ≡ 0
   pub three : lineOf Three h ls ≡ 0
   pub four : lineOf Four h ls ≡ 0
-  pub five : lineOf Five h ls ≡ 0
-  pub six : lineOf Six h ls ≡ 0
+  pub five : Yes (question5 h) (termLines h ls) (opList h ls)
+  pub six : Yes question6 (termLines h ls) (opList h ls)
   pub room : question7 h rows places ≡ true
 
 pub answers-of : (h : Head) (ls : List (List ℕ)) (rows places : ℕ) → verdict h ls rows places ≡ Passed → Answers h ls rows places
@@ -71,9 +96,17 @@ answers-of h ls rows places e =
     let b = refused-none 2 _ _ (a .1) in
     let c = refused-none 3 _ _ (b .1) in
     let d = refused-none 4 _ _ (c .1) in
-    let f = refused-none 5 _ _ (d .1) in
-    let g = refused-none 6 _ _ (f .1) in
-    record { laid = a .0; two = b .0; three = c .0; four = d .0; five = f .0; six = g .0; room = last-passed (question7 h rows places) (g .1) }
+    let f = faults-none (question5 h .term) (question6 .term) 7 (termLines h ls) (firstFault (opFault h) (8 + h .terms) (opList h ls) (roomVerdict h rows places)) (d .1) in
+    let g = faults-none (question5 h .op) (question6 .op) (8 + h .terms) (opList h ls) (roomVerdict h rows places) (f .1 .1) in
+    record {
+      laid = a .0;
+      two = b .0;
+      three = c .0;
+      four = d .0;
+      five = record { qubits = refl; epsilon = refl; limit = refl; terms = refl; term = f .0; ops = refl; op = g .0 };
+      six = record { qubits = refl; epsilon = refl; limit = refl; terms = refl; term = f .1 .0; ops = refl; op = g .1 .0 };
+      room = last-passed (question7 h rows places) (g .1 .1);
+    }
 
 -- ---- a question that no line fails
 not-zero : (k : ℕ) → suc k ≡ 0 → ⊥
@@ -98,16 +131,6 @@ first-none p k (a ∷ l) h = go (p a) h (first-none p (suc k) l)
     go : (b : Bool) → cond b (firstOf p (suc (suc k)) l) (suc k) ≡ 0 → (firstOf p (suc (suc k)) l ≡ 0 → every p l ≡ true) → (b && every p l) ≡ true
     go true h f = f h
     go false h f = absurd (not-zero k h)
-
--- each answer is yes
-pub record Yes (q : Question) (ls : List TermLine) (os : List Op) : Type 0 where
-  pub qubits : q .qubits ≡ true
-  pub epsilon : q .epsilon ≡ true
-  pub limit : q .limit ≡ true
-  pub terms : q .terms ≡ true
-  pub term : every (q .term) ls ≡ true
-  pub ops : q .ops ≡ true
-  pub op : every (q .op) os ≡ true
 
 pub yes-of : (q : Question) (t : ℕ) (ls : List TermLine) (os : List Op) → firstNo q t ls os ≡ 0 → Yes q ls os
 yes-of q t ls os h =
@@ -225,7 +248,7 @@ module _ (h : Head) (ls : List (List ℕ)) (rows places : ℕ) (a : Answers h ls
   five-true : values.question5 (taskOf h ls) ≡ true
   unfolding values.question5
   five-true =
-      let y = line-yes (question5 h) (a .five) in
+      let y = a .five in
       let n = h .qubits in
       ap₂ _&&_
       (every-map (wordLine width) (λ (l : TermLine). allBelow n (qubitsIn (l .factors))) (λ (l : Line). every (λ q. ltb q n) (qubitsOf width (l .key)))
@@ -234,7 +257,7 @@ module _ (h : Head) (ls : List (List ℕ)) (rows places : ℕ) (a : Answers h ls
 
   six-true : values.question6 (taskOf h ls) ≡ true
   unfolding values.question6
-  six-true = line-yes question6 (a .six) .op
+  six-true = a .six .op
 
   pub answers-pass : passes (h .run) (taskOf h ls) ≡ true
   answers-pass = ap₂ _&&_ (ap₂ _&&_ two-true three-true) (ap₂ _&&_ four-true (ap₂ _&&_ five-true six-true))

@@ -1,23 +1,20 @@
 -- Laws of the verdict. Assumes nothing.
-use mathlib.Core.Path.{_≡_, refl, sym, ap, ap₂, _∙_}
+use mathlib.Core.Path.{_≡_, refl, sym, ap, _∙_}
 use Prim.Native.Nat.{ℕ, suc, _+_, _*_, _<_, _≤_}
 use native.Mathlib.Omega.{arith}
 use mathlib.Core.Bool.{Bool, true, false, cond, _&&_}
 use mathlib.Core.List.{List, [], _∷_}
-use lib.Dec.{leb, ltb}
-use borrow.Author.Tests.{ne-eqb, eq-eqb, le-leb, lt-leb, leb-true, ltb-true, lt-ltb}
+use lib.Dec.{leb}
+use borrow.Author.Tests.{ne-eqb, eq-eqb, le-leb, lt-leb, leb-true}
 use Rattle.terms.proofs.CaseLaws.{and-true}
-use Rattle.runs.specs.Task.{every}
 use Rattle.layout.specs.declared.Head.{Head}
 use Rattle.layout.specs.Layout.{termLines, opList}
-use Rattle.lines.specs.TermLines.{qubitsIn, allBelow, distinct}
-use Rattle.sheet.specs.declared.Asked.the-variants.{Two, Five, Six}
+use Rattle.sheet.specs.declared.Asked.the-variants.{Two}
 use Rattle.sheet.specs.declared.Verdict.{Verdict}
 use Rattle.sheet.specs.declared.Verdict.the-variants.{RefusedAt, Passed}
-use Rattle.sheet.specs.Questions.{question2, question5, placesFit, questionOf, firstOf, unless, _orElse_, headLine, opsLine, lineOf, refusedOr, roomVerdict}
-use Rattle.sheet.specs.Asking.{termTest, IsSecond}
+use Rattle.sheet.specs.Questions.{question2, placesFit, firstOf, unless, _orElse_, headLine, opsLine, lineOf, refusedOr, roomVerdict}
+use Rattle.sheet.specs.Asking.{IsSecond}
 use Rattle.sheet.proofs.FirstLaws.{or-first, or-second}
-use Rattle.sheet.proofs.PassLaws.{yes-of}
 
 -- ---- one question after another
 pub refused-here : (n line r : ℕ) (v : Verdict) → r ≡ line → (r ≡ 0 → ⊥) → RefusedAt n r ≡ refusedOr n line v
@@ -62,28 +59,6 @@ module _ (h : Head) (m : ℕ) (e : m ≡ headLine (question2 h)) where
 
   pub second-terms : m ≡ 0 → h .terms ≤ 1024
   second-terms z = leb-true (h .terms) 1024 (and-true (leb (h .terms) 1024) _ (last-yes (question2 h .qubits) true (question2 h .limit) (question2 h .terms) (sym e ∙ z)) .0)
-
--- ---- question 6 is put to qubits below 256
-first-ext : {A : Type 0} (p q r : A → Bool) (k : ℕ) (l : List A) → ((a : A) → r a ≡ true → p a ≡ q a) → every r l ≡ true → firstOf p k l ≡ firstOf q k l
-unfolding firstOf every
-first-ext p q r k [] f h = refl
-first-ext p q r k (a ∷ l) f h =
-    let g = and-true (r a) (every r l) h in
-    ap₂ (λ (b : Bool) (n : ℕ). cond b n k) (f a (g .0)) (first-ext p q r (suc k) l f (g .1))
-
-below-more : (m n : ℕ) (qs : List ℕ) → m ≤ n → allBelow m qs ≡ true → allBelow n qs ≡ true
-unfolding every
-below-more m n [] h e = refl
-below-more m n (q ∷ qs) h e =
-    let g = and-true (ltb q m) (allBelow m qs) e in
-    let l : q < n = let k = ltb-true q m (g .0) in omega arith in
-    ap₂ _&&_ (lt-ltb q n l) (below-more m n qs h (g .1))
-
-pub sixth-test : (h : Head) (ls : List (List ℕ)) → h .qubits ≤ 256 → lineOf Five h ls ≡ 0 → firstOf (termTest Six h) 7 (termLines h ls) ≡ firstOf (questionOf Six h .term) 7 (termLines h ls)
-sixth-test h ls b e =
-    first-ext (termTest Six h) (questionOf Six h .term) (λ l. allBelow (h .qubits) (qubitsIn (l .factors))) 7 (termLines h ls)
-    (λ l k. ap (λ (x : Bool). x && distinct (qubitsIn (l .factors))) (below-more (h .qubits) 256 (qubitsIn (l .factors)) b k))
-    (yes-of (question5 h) (h .terms) (termLines h ls) (opList h ls) e .term)
 
 -- ---- question 7
 pub no-rows : (h : Head) (rows places : ℕ) → rows < 2 * h .limit → RefusedAt 7 0 ≡ roomVerdict h rows places

@@ -1,27 +1,16 @@
 -- Words of the private contracts: how the questions are asked.
 use mathlib.Core.Path.{_≡_}
 use Prim.Native.Nat.{ℕ, _≤_}
-use mathlib.Core.Bool.{Bool, _&&_}
 use mathlib.Core.List.{List}
 use lib.Ieee.{Float}
 use Rattle.turns.specs.declared.Op.{Op}
 use Rattle.turns.specs.OpList as T
 use Rattle.layout.specs.declared.Head.{Head}
-use Rattle.lines.specs.TermLines.{TermLine, qubitsIn, allBelow, distinct}
-use Rattle.layout.specs.Layout.{question1, termLines, opList}
-use Rattle.sheet.specs.declared.Asked.{Asked}
-use Rattle.sheet.specs.declared.Asked.the-variants.{Two, Three, Four, Five, Six}
+use Rattle.layout.specs.Layout.{question1, opList}
+use Rattle.sheet.specs.declared.Asked.the-variants.{Two, Three, Four}
 use Rattle.sheet.specs.declared.Verdict.{Verdict}
 use Rattle.sheet.specs.declared.Verdict.the-variants.{Passed}
-use Rattle.sheet.specs.Questions.{questionOf, firstOf, lineOf, refusedOr, roomVerdict}
-
--- the test of a `term` line. Question 6 is put after 5, so its test may take every qubit for one below 256.
-abbrev pub termTest : Asked → Head → TermLine → Bool
-termTest Two h l = questionOf Two h .term l
-termTest Three h l = questionOf Three h .term l
-termTest Four h l = questionOf Four h .term l
-termTest Five h l = questionOf Five h .term l
-termTest Six h l = let qs = qubitsIn (l .factors) in allBelow 256 qs && distinct qs
+use Rattle.sheet.specs.Questions.{lineOf, refusedOr, byLine, roomVerdict}
 
 -- the ops in a table: two slices, see turns OpList
 abbrev pub tableOps : Head → List ℕ → List Float → List Op
@@ -36,11 +25,6 @@ pub record Sound (h : Head) (ls : List (List ℕ)) (os : List Op) : Type 0 where
   pub ops : h .ops ≤ 4096
   pub table : os ≡ opList h ls
 
--- one question: and the test of the `term` lines is its own
-pub record Ready (asked : Asked) (h : Head) (ls : List (List ℕ)) (os : List Op) : Type 0 where
-  pub sound : Sound h ls os
-  pub test : firstOf (termTest asked h) 7 (termLines h ls) ≡ firstOf (questionOf asked h .term) 7 (termLines h ls)
-
 -- question 2 asks nothing of a `term` or an `op` line, so its answer is the same for all of them
 abbrev pub IsSecond : Head → ℕ → Type 0
 IsSecond h r = (ls : List (List ℕ)) → r ≡ lineOf Two h ls
@@ -50,8 +34,4 @@ abbrev pub earlyVerdict : Head → List (List ℕ) → Verdict
 earlyVerdict h ls = refusedOr 1 (question1 h ls) (refusedOr 2 (lineOf Two h ls) Passed)
 
 abbrev pub laterVerdict : Head → List (List ℕ) → ℕ → ℕ → Verdict
-laterVerdict h ls rows places =
-    refusedOr 3 (lineOf Three h ls)
-    (refusedOr 4 (lineOf Four h ls)
-    (refusedOr 5 (lineOf Five h ls)
-    (refusedOr 6 (lineOf Six h ls) (roomVerdict h rows places))))
+laterVerdict h ls rows places = refusedOr 3 (lineOf Three h ls) (refusedOr 4 (lineOf Four h ls) (byLine h ls (roomVerdict h rows places)))

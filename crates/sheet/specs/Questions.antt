@@ -1,5 +1,5 @@
 -- "Questions before and during a run": 1 to 7. "Each is put to the whole sheet before the next, 1 to 7; the line returned is the first that
--- fails, counted from 1."
+-- fails, counted from 1." 5 and 6 are put together, line by line (2026-01).
 use Prim.Native.Nat.{ℕ, suc, _+_, _*_}
 use mathlib.Core.Bool.{Bool, true, cond, _&&_}
 use mathlib.Core.List.{List, [], _∷_}
@@ -16,7 +16,7 @@ use Rattle.layout.specs.declared.Head.{Head}
 use Rattle.lines.specs.TermLines.{TermLine, qubitsIn, allBelow, distinct}
 use Rattle.layout.specs.Layout.{question1, termLines, opList}
 use Rattle.sheet.specs.declared.Asked.{Asked}
-use Rattle.sheet.specs.declared.Asked.the-variants.{Two, Three, Four, Five, Six}
+use Rattle.sheet.specs.declared.Asked.the-variants.{Two, Three, Four}
 use Rattle.sheet.specs.declared.Verdict.{Verdict}
 use Rattle.sheet.specs.declared.Verdict.the-variants.{RefusedAt, Passed}
 
@@ -111,8 +111,6 @@ abbrev pub questionOf : Asked → Head → Question
 questionOf Two h = question2 h
 questionOf Three h = question3 h
 questionOf Four h = question4 h
-questionOf Five h = question5 h
-questionOf Six h = question6
 
 -- ---- 7. "Are there at least 2 × limit rows, and for `all` as many mean places as qubits?"
 abbrev pub placesFit : Run → ℕ → ℕ → Bool
@@ -159,11 +157,35 @@ lineOf a h ls = firstNo (questionOf a h) (h .terms) (termLines h ls) (opList h l
 abbrev pub roomVerdict : Head → ℕ → ℕ → Verdict
 roomVerdict h rows places = cond (question7 h rows places) Passed (RefusedAt 7 0)
 
-unfoldable pub verdict : Head → List (List ℕ) → ℕ → ℕ → Verdict
-verdict h ls rows places =
+-- questions 1 to 4, then v
+abbrev pub byQuestion : Head → List (List ℕ) → Verdict → Verdict
+byQuestion h ls v =
     refusedOr 1 (question1 h ls)
     (refusedOr 2 (lineOf Two h ls)
     (refusedOr 3 (lineOf Three h ls)
-    (refusedOr 4 (lineOf Four h ls)
-    (refusedOr 5 (lineOf Five h ls)
-    (refusedOr 6 (lineOf Six h ls) (roomVerdict h rows places))))))
+    (refusedOr 4 (lineOf Four h ls) v)))
+
+-- ---- 5 and 6: "They are now put line by line, 5 before 6 on one line." (2026-01)
+
+-- the number that refuses a line, by whether its qubits are below `qubits` and whether they are distinct; 0 if neither does
+abbrev pub faultOf : Bool → Bool → ℕ
+faultOf below apart = cond below (cond apart 0 6) 5
+
+abbrev pub termFault : Head → TermLine → ℕ
+termFault h l = faultOf (question5 h .term l) (question6 .term l)
+
+abbrev pub opFault : Head → Op → ℕ
+opFault h o = faultOf (question5 h .op o) (question6 .op o)
+
+-- the first line from line k on that is refused, and by what number; else v
+unfoldable pub firstFault : {A : Type 0} → (A → ℕ) → ℕ → List A → Verdict → Verdict
+firstFault f k [] v = v
+firstFault f k (a ∷ l) v = let r = firstFault f (suc k) l v in cond (eqb (f a) 0) r (RefusedAt (f a) k)
+
+-- the `term` lines, the `op` lines, then v
+abbrev pub byLine : Head → List (List ℕ) → Verdict → Verdict
+byLine h ls v = firstFault (termFault h) 7 (termLines h ls) (firstFault (opFault h) (8 + h .terms) (opList h ls) v)
+
+unfoldable pub verdict : Head → List (List ℕ) → ℕ → ℕ → Verdict
+unfolding firstFault
+verdict h ls rows places = byQuestion h ls (byLine h ls (roomVerdict h rows places))

@@ -4,7 +4,7 @@ ghost use Prim.Native.Nat.{_+_, _≤_};
 ghost use Rattle.text.specs.Bytes.{parts, newline};
 ghost use Rattle.layout.specs.Layout.{question1, termLines};
 ghost use Rattle.sheet.specs.Questions.{questionOf, firstOf, _orElse_, opsLine, lineOf};
-ghost use Rattle.sheet.specs.Asking.{termTest, tableOps, Ready};
+ghost use Rattle.sheet.specs.Asking.{tableOps, Sound};
 use crate::Asked;
 use crate::headtests::head_line;
 use crate::headtests::ops_fit;
@@ -22,13 +22,10 @@ fn op_fits(asked: Asked, head: Head, op: Op) -> bool
     ensures { λ r. ⌜ r ≡ questionOf asked head .op op ⌝ }
 {
     let run = head.run;
-    let qubits = head.qubits;
     match asked {
         Asked::Two => true,
         Asked::Three => optests::channel_fits(run, op),
         Asked::Four => optests::reals_fit(op),
-        Asked::Five => optests::targets_below(op, qubits),
-        Asked::Six => optests::targets_distinct(op),
     }
 }
 
@@ -65,7 +62,7 @@ fn ops_line(asked: Asked, head: Head, codes: &[usize], reals: &[f64]) -> usize
 // The first `term` line that fails.
 fn first_term(asked: Asked, head: Head, s: &[u8]) -> usize
     requires { ⌜ (question1 head (parts newline (now s)) ≡ 0) × (head .terms ≤ 1024) ⌝ }
-    ensures { λ r. ⌜ r ≡ firstOf (termTest asked head) 7 (termLines head (parts newline (now (s .entry)))) ⌝ }
+    ensures { λ r. ⌜ r ≡ firstOf (questionOf asked head .term) 7 (termLines head (parts newline (now (s .entry)))) ⌝ }
 {
     let terms = head.terms;
     let mut at = start_at(s, 0, 6);
@@ -97,7 +94,7 @@ pub(crate) fn first_line(
     codes: &[usize],
     reals: &[f64],
 ) -> usize
-    requires { ⌜ Ready asked head (parts newline (now s)) (tableOps head (now codes) (now reals)) ⌝ }
+    requires { ⌜ Sound head (parts newline (now s)) (tableOps head (now codes) (now reals)) ⌝ }
     ensures { λ r. ⌜ r ≡ lineOf asked head (parts newline (now (s .entry))) ⌝ }
 {
     let c = ops_line(asked, head, codes, reals);

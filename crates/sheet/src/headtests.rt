@@ -23,8 +23,6 @@ fn qubits_fit(asked: Asked, head: Head) -> bool
         Asked::Two => is_within(1, 256, qubits),
         Asked::Three => true,
         Asked::Four => true,
-        Asked::Five => true,
-        Asked::Six => true,
     }
 }
 
@@ -36,8 +34,6 @@ fn epsilon_fits(asked: Asked, head: Head) -> bool
         Asked::Two => true,
         Asked::Three => true,
         Asked::Four => is_epsilon(epsilon),
-        Asked::Five => true,
-        Asked::Six => true,
     }
 }
 
@@ -49,8 +45,6 @@ fn limit_fits(asked: Asked, head: Head) -> bool
         Asked::Two => is_within(1, 1048576, limit),
         Asked::Three => true,
         Asked::Four => true,
-        Asked::Five => true,
-        Asked::Six => true,
     }
 }
 
@@ -82,8 +76,6 @@ fn terms_fit(asked: Asked, head: Head) -> bool
         Asked::Two => are_few(terms, limit),
         Asked::Three => count_fits(run, terms),
         Asked::Four => true,
-        Asked::Five => true,
-        Asked::Six => true,
     }
 }
 
@@ -95,8 +87,6 @@ pub(crate) fn ops_fit(asked: Asked, head: Head) -> bool
         Asked::Two => ops <= 4096,
         Asked::Three => true,
         Asked::Four => true,
-        Asked::Five => true,
-        Asked::Six => true,
     }
 }
 

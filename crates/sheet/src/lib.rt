@@ -1,12 +1,11 @@
 // From the bytes of a sheet to its answer: questions 2 to 7, the run, the reply.
 
-// The questions that are put to the values of a sheet, by the numbers that refuse it.
+// The questions that are put to the whole of a sheet's values, one before the next, by the numbers that refuse it. 5 and 6 are put together, line
+// by line (`faults`).
 pub enum Asked {
     Two,
     Three,
     Four,
-    Five,
-    Six,
 }
 
 // The number of the first question that fails and the line, or none.
@@ -17,6 +16,7 @@ pub enum Verdict {
 
 pub mod answer;
 mod asking;
+mod faults;
 mod headtests;
 mod optests;
 mod replying;

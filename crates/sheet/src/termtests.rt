@@ -1,12 +1,9 @@
-// What questions 3 to 6 ask of one `term` line.
+// What questions 3 and 4 ask of one `term` line.
 ghost use mathlib.Core.Path.{_≡_};
 ghost use Rattle.lines.specs.TermLines.{lineOn};
-ghost use Rattle.sheet.specs.Questions.{weightFits};
-ghost use Rattle.sheet.specs.Asking.{termTest};
+ghost use Rattle.sheet.specs.Questions.{weightFits, questionOf};
 use crate::Asked;
 use layout::Head;
-use lines::termlines::factors_below;
-use lines::termlines::factors_distinct;
 use lines::termlines::weight_on;
 use numbers::tests::is_finite;
 use runs::Run;
@@ -24,15 +21,12 @@ fn weight_fits(run: Run, x: f64) -> bool
 }
 
 pub(crate) fn term_fits(asked: Asked, head: Head, l: &[u8]) -> bool
-    ensures { λ r. ⌜ r ≡ termTest asked head (lineOn (now (l .entry))) ⌝ }
+    ensures { λ r. ⌜ r ≡ questionOf asked head .term (lineOn (now (l .entry))) ⌝ }
 {
     let run = head.run;
-    let qubits = head.qubits;
     match asked {
         Asked::Two => true,
         Asked::Three => weight_fits(run, weight_on(l)),
         Asked::Four => is_finite(weight_on(l)),
-        Asked::Five => factors_below(l, qubits),
-        Asked::Six => factors_distinct(l),
     }
 }

@@ -7,6 +7,7 @@ ghost use Rattle.sheet.specs.Asking.{tableOps, Sound, IsSecond, earlyVer
 use crate::Asked;
 use crate::Verdict;
 use crate::asking::first_line;
+use crate::faults::by_line;
 use crate::headtests::head_line;
 use crate::headtests::ops_fit;
 use layout::Head;
@@ -73,7 +74,7 @@ fn room_verdict(head: Head, rows: usize, places: usize) -> Verdict
     Verdict::RefusedAt(7, 0)
 }
 
-// Questions 3 to 7, for a sheet that passed 1 and 2.
+// Questions 3 to 7, for a sheet that passed 1 and 2; 5 and 6 line by line.
 pub(crate) fn later_verdict(
     s: &[u8],
     head: Head,
@@ -93,13 +94,6 @@ pub(crate) fn later_verdict(
     if d != 0 {
         return Verdict::RefusedAt(4, d);
     }
-    let e = first_line(Asked::Five, head, s, codes, reals);
-    if e != 0 {
-        return Verdict::RefusedAt(5, e);
-    }
-    let f = first_line(Asked::Six, head, s, codes, reals);
-    if f != 0 {
-        return Verdict::RefusedAt(6, f);
-    }
-    room_verdict(head, rows, places)
+    let room = room_verdict(head, rows, places);
+    by_line(head, s, codes, reals, room)
 }

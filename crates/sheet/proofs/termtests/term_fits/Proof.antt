@@ -16,13 +16,5 @@ returns-3 : tie.Need-returns-3
 unfolding lineOn
 returns-3 c = by-asked-term _ _ (c .before .before .before .before .before .args .head) (lineOn (c .before .before .before .before .before .args .l .now)) _ (c .before .before .enum-told3 .given .1) (c .is-finite .ensures ∙ ap isFinite (c .before .weight-on2 .ensures))
 
-returns-4 : tie.Need-returns-4
-unfolding lineOn
-returns-4 c = by-asked-term _ _ (c .before .before .before .before .args .head) (lineOn (c .before .before .before .before .args .l .now)) _ (c .before .enum-told4 .given .1) (c .factors-below .ensures)
-
-returns-5 : tie.Need-returns-5
-unfolding lineOn
-returns-5 c = by-asked-term _ _ (c .before .before .before .before .args .head) (lineOn (c .before .before .before .before .args .l .now)) _ (c .before .enum-told5 .given .1) (c .factors-distinct .ensures)
-
 pub term-fits-spec : {M : Type 1} → statement M
-term-fits-spec = tie.close (tie.spec (λ c. search needs) (λ c. search needs) (λ c κs. search needs) (λ c κs. search needs) (λ c. search needs) (λ c κs. search needs) (λ c κs. search needs) (λ c. search needs) (λ c κs. search needs) (λ c. search needs) (λ c κs. search needs) (λ c. search needs) returns-2 returns-3 returns-4 returns-5)
+term-fits-spec = tie.close (tie.spec (λ c. search needs) (λ c. search needs) (λ c κs. search needs) (λ c κs. search needs) (λ c. search needs) (λ c κs. search needs) (λ c κs. search needs) (λ c. search needs) returns-2 returns-3)

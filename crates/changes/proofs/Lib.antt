@@ -1,0 +1,3 @@
+pub mod ComparedLaws
+pub mod TopLaws
+pub mod TopCases

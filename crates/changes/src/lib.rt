@@ -1,0 +1,1 @@
+// What each change request moved, beside the definition before it: statements and proofs alone.
