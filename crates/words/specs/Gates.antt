@@ -1,5 +1,6 @@
 -- "The gates map and phase a term as in the two Rust functions": a gate U takes the word P = X^x Z^z to U† P U.
--- Its bits at the targets change, and it gains a power of i. Tableau.antt has the published rules, which agree.
+-- Its bits at the targets change, and it gains a power of i. Tableau.antt has the published rules, which agree. What a gate does to a term is
+-- listed in the order of section III of Aaronson and Gottesman: controlled-NOT, Hadamard, phase; the other gates after (2026-05).
 use Prim.Native.Nat.{ℕ, _*_, _<_}
 use mathlib.Core.Path.{_≡_}
 use mathlib.Core.Logic.{_≢_}
@@ -29,12 +30,12 @@ mk x z u v = record { xa = x; za = z; xb = u; zb = v }
 
 -- `propagate_backward_words`: the bits at the targets after the gate
 abbrev pub conjBits : Gate → B.Bits → B.Bits
+conjBits Cx s = mk (s .xa) (s .za ⊕ s .zb) (s .xb ⊕ s .xa) (s .zb)
 conjBits H s = mk (s .za) (s .xa) (s .xb) (s .zb)
 conjBits S s = mk (s .xa) (s .za ⊕ s .xa) (s .xb) (s .zb)
 conjBits Sdg s = mk (s .xa) (s .za ⊕ s .xa) (s .xb) (s .zb)
 conjBits Sx s = mk (s .xa ⊕ s .za) (s .za) (s .xb) (s .zb)
 conjBits Sxdg s = mk (s .xa ⊕ s .za) (s .za) (s .xb) (s .zb)
-conjBits Cx s = mk (s .xa) (s .za ⊕ s .zb) (s .xb ⊕ s .xa) (s .zb)
 conjBits Cz s = mk (s .xa) (s .za ⊕ s .xb) (s .xb) (s .zb ⊕ s .xa)
 conjBits Swap s = mk (s .xb) (s .zb) (s .xa) (s .za)
 conjBits Id s = s
@@ -44,18 +45,18 @@ conjBits Z s = s
 
 -- `clifford_conjugation_phase`: quarter turns, from the bits before. "cx and swap give no phase."
 abbrev pub conjPhase : Gate → B.Bits → ℕ
+conjPhase Cx s = 0
 conjPhase H s = cond (s .xa && s .za) 2 0
 conjPhase S s = cond (s .xa) 3 0
 conjPhase Sdg s = cond (s .xa) 1 0
 conjPhase Sx s = cond (s .za) 1 0
 conjPhase Sxdg s = cond (s .za) 3 0
+conjPhase Cz s = cond (s .xa && s .xb) 2 0
+conjPhase Swap s = 0
+conjPhase Id s = 0
 conjPhase X s = cond (s .za) 2 0
 conjPhase Y s = cond (s .xa ⊕ s .za) 2 0
 conjPhase Z s = cond (s .xa) 2 0
-conjPhase Cz s = cond (s .xa && s .xb) 2 0
-conjPhase Id s = 0
-conjPhase Cx s = 0
-conjPhase Swap s = 0
 
 -- the bits of a key at the targets a and b, and the key with those that the gate changes flipped
 abbrev pub bitsAt : ℕ → ℕ → ℕ → Key → B.Bits

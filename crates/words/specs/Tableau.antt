@@ -1,4 +1,4 @@
--- The rules of Aaronson and Gottesman, "Improved simulation of stabilizer circuits", on one row of a tableau at two qubits.
+-- The rules of Aaronson and Gottesman, "Improved simulation of stabilizer circuits", section III, on one row of a tableau at two qubits, in their order.
 -- A row is (-1)^r times letters: I, X, Z, Y where (x, z) is (0, 0), (1, 0), (0, 1), (1, 1).
 use Prim.Native.Nat.{ℕ, _+_, _*_, _%_}
 use mathlib.Core.Path.{_≡_}
@@ -46,14 +46,14 @@ published Cx t = cnot t
 published H t = hadamard t
 published S t = phase (phase (phase t))
 published Sdg t = phase t
-published Z t = phase (phase t)
-published X t = hadamard (phase (phase (hadamard t)))
-published Y t = hadamard (phase (phase (hadamard (phase (phase t)))))
 published Sx t = hadamard (phase (phase (phase (hadamard t))))
 published Sxdg t = hadamard (phase (hadamard t))
 published Cz t = renamed (hadamard (renamed (cnot (renamed (hadamard (renamed t))))))
 published Swap t = cnot (renamed (cnot (renamed (cnot t))))
 published Id t = t
+published X t = hadamard (phase (phase (hadamard t)))
+published Y t = hadamard (phase (phase (hadamard (phase (phase t)))))
+published Z t = phase (phase t)
 
 -- how many of the two letters are Y. Since Y = iXZ, the word X^x Z^z is i^(3 * ys) times its letters
 abbrev pub ys : B.Bits → ℕ

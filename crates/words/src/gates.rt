@@ -1,4 +1,6 @@
 // One key through one gate: a gate U takes the word P = X^x Z^z backward to U† P U. A key is w x-words and then w z-words.
+// The gates stand in the order of section III of Aaronson and Gottesman, "Improved simulation of stabilizer circuits": controlled-NOT, Hadamard, phase;
+// the other gates after (2026-05). `.ci/order` keeps this order, here and in the definitions.
 // A bit is a number, 0 or 1, and a flip is a mask made of it: on a bool the compiler makes branches, which the processor would often
 // predict wrongly. Each gate touches just the bits that it needs.
 ghost use mathlib.Core.Path.{_≡_};
