@@ -169,13 +169,13 @@ DIFFERENCES = [
     ("15, limit 257", sheet(limit=257), no(7), ANSWERS),
 ]
 
-
 def thirty(eighth, last):
     """A sheet of 30 lines on two qubits, with what stands on its lines 8 and 30."""
     return sheet(["Z0", eighth], ["h:1"] * 20 + [last], 2)
 
 
-# Document 02's change requests, one after the other.
+# The requests of document 02: a name that begins with the request's number, a
+# sheet and the answer that it asks for.
 CHANGED = [
     ("2026-01, a repeat on line 8, outside on line 30", thirty("X0,Y0", "h:2"), no(6, 8)),
     ("2026-01, outside on line 8, a repeat on line 30", thirty("X2", "cx:1,1"), no(5, 8)),
@@ -191,6 +191,29 @@ CHANGED = [
     ("2026-01, 4 of a later line before both", sheet(["X0,X0", NAN + ":X2"], [], 2), no(4, 8)),
     ("2026-01, 6 before 7", sheet(["X0,X0", "X2"], [], 2, limit=257), no(6, 7)),
 ]
+
+# 2026-03: one identity term and no ops, so that the weight is the mean. Exact
+# halves; numbers whose product with 1000 is a half only once it is rounded;
+# numbers on either side of the clamp.
+for weight, number in [
+    ("3fb0000000000000", 62),  # 0.0625
+    ("3fc8000000000000", 188),  # 0.1875
+    ("3fd4000000000000", 312),  # 0.3125
+    ("3fdc000000000000", 438),  # 0.4375
+    ("3f40624dd2f1a9fc", 1),  # above 0.0005
+    ("3f647ae147ae147b", 3),  # above 0.0025
+    ("3f76872b020c49ba", 5),  # below 0.0055
+    ("412e847fff3b645a", 999999998),  # below 999,999.9985
+    ("412e847fff3b645b", 999999999),  # above it
+    ("412e847fffbe76c8", 999999999),  # below 999,999.9995
+    ("412e847fffbe76c9", 999999999),  # above it
+    ("412e848000000000", 999999999),  # 1,000,000
+    ("0000000000000001", 0),
+    (LARGEST, 999999999),
+]:
+    minus = "%016x" % (int(weight, 16) | 1 << 63)
+    CHANGED.append(("2026-03, mean " + weight, sheet([weight + ":"]), ok(weight, number)))
+    CHANGED.append(("2026-03, mean " + minus, sheet([minus + ":"]), ok(minus, -number)))
 
 
 def answers(command, texts):

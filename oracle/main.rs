@@ -5,8 +5,8 @@
 //! the number of a term's 5 or 6 where that is the sheet's only kind of fault.
 //! From the rules of document 01 (sheet.rs and here): reading the sheet, the
 //! refusals 1 to 7 and their lines, question 8 (asked of prism-q's numbers, at
-//! the places where document 01 asks it), `shown`, t_count 0 in `path`, and
-//! the printing.
+//! the places where document 01 asks it), `shown` (as request 2026-03 of
+//! document 02 has it), t_count 0 in `path`, and the printing.
 //!
 //! Everything in this file is ours.
 
@@ -52,6 +52,7 @@ use sim::unified_pauli::{
     PauliAxis, PauliTerm, SpdTruncation, run_pauli_path_weighted_observable,
     run_spd_observable_light_cone, run_spd_weighted_observable_with, run_spd_with,
 };
+use std::cmp::Ordering;
 use std::fmt::Write as _;
 use std::io::{Read, Write};
 
@@ -239,7 +240,9 @@ fn bits(real: f64) -> u64 {
     if real == 0.0 { 0 } else { real.to_bits() }
 }
 
-/// The exact 1000 × mean cut toward zero, held within ±999,999,999.
+/// The integer nearest to the exact 1000 × |mean|, an exact half to the even
+/// one, then the sign put back, then held within ±999,999,999: request 2026-03
+/// of document 02. Whole numbers only, so nothing is rounded before.
 fn shown(mean: f64) -> i64 {
     const MOST: u128 = 999_999_999;
     let field = (mean.to_bits() >> 52) & 0x7ff;
@@ -250,13 +253,22 @@ fn shown(mean: f64) -> i64 {
         _ => (fraction | (1 << 52), field as i64 - 1075),
     };
     let thousands = 1000 * significand as u128;
-    let cut = match power {
+    let nearest = match power {
         64.. => MOST * (significand != 0) as u128,
         0..64 => thousands << power,
-        -127..0 => thousands >> -power,
+        -127..0 => {
+            let one = 1u128 << -power;
+            let (whole, rest) = (thousands / one, thousands % one);
+            match (2 * rest).cmp(&one) {
+                Ordering::Less => whole,
+                Ordering::Equal => whole + whole % 2,
+                Ordering::Greater => whole + 1,
+            }
+        }
+        // below 2^63 × 2^-127, far below a half
         _ => 0,
     };
-    let size = cut.min(MOST) as i64;
+    let size = nearest.min(MOST) as i64;
     if mean < 0.0 { -size } else { size }
 }
 

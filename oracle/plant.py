@@ -6,6 +6,9 @@
 OUT is the folder that build.py made. Each error is put into a copy of
 OUT/code at one place, found by a short text; the copy is compiled and
 compared over one stream with COMMAND (the oracle itself if none is given).
+The stream is that of generate.py, and after it the sheets of the requests of
+document 02 (`CHANGED` of cases.py), since few drawn sheets have a mean at
+which the requests' rules show.
 """
 
 import argparse
@@ -14,6 +17,8 @@ import re
 import shutil
 import subprocess
 import sys
+
+import cases
 
 HERE = os.path.dirname(os.path.abspath(__file__))
 PAULI, WORDS = "sim/unified_pauli.rs", "sim/compiled/propagation.rs"
@@ -207,7 +212,9 @@ PLANTS = [
     ("repeated factors accepted", PAULI, "fn pauli_vec_from_terms(", "if seen[term.qubit]", "if false"),
     ("t with two equal numbers", HOOK, "pub const T_SINE: u64 =", "0x3fe6a09e667f3bcc", "0x3fe6a09e667f3bcd"),
     ("tdg as t", HOOK, "if theta == -std", "(-sine, cosine)", "(sine, cosine)"),
-    ("shown to the nearest", OURS, "fn shown(", "thousands >> -power", "((thousands >> (-power - 1)) + 1) >> 1"),
+    ("shown cut toward zero", OURS, "fn shown(", "Greater => whole + 1", "Greater => whole"),
+    ("shown with a half away from zero", OURS, "fn shown(", "whole + whole % 2", "whole + 1"),
+    ("shown from a rounded product", OURS, "fn shown(", "thousands % one)", "thousands % one >> 10 << 10)"),
     ("shown held at 10^9", OURS, "fn shown(", "999_999_999", "1_000_000_000"),
     ("shown without its sign", OURS, "fn shown(", "{ -size }", "{ size }"),
 ]
@@ -236,6 +243,7 @@ def main():
     generate = [sys.executable, os.path.join(HERE, "generate.py")]
     generate += ["--seed", str(given.seed), "--count", str(given.count)]
     stream = subprocess.run(generate, stdout=subprocess.PIPE, check=True).stdout
+    stream += b"".join(b"#sheet %d\n" % len(text) + text for _, text, _ in cases.CHANGED)
     caught = 0
     for name, file, after, old, new in PLANTS[given.first :]:
         shutil.rmtree(copy, ignore_errors=True)

@@ -3,8 +3,8 @@
 
 Writes FOLDER/stdin, a stream of sheets, and FOLDER/stdout, the answers to them with their rows: first the fixed sheets of cases.py, then sheets of
 every kind that pass the questions, whose answers are prism-q's, then refused sheets, whose answers are document 01's as the oracle's own checker
-reads it. These are at most 2,000,000 bytes. The examples of document 02's change requests follow, so that a request adds sheets behind those that are
-kept; the program takes 2,097,152 bytes.
+reads it. These are at most 2,000,000 bytes. After them come the sheets of the requests of document 02 (`CHANGED` of cases.py), so that a new request
+alters none of the sheets before its own; the program takes 2,097,152 bytes in all.
 """
 
 import io
@@ -16,7 +16,7 @@ import cases
 import compare
 
 HERE = os.path.dirname(os.path.abspath(__file__))
-MOST, ROOM = 2_000_000, 2_097_152
+MOST, ALL = 2_000_000, 2_097_152
 
 
 def generated(*words):
@@ -33,20 +33,19 @@ def chosen():
     yield from (s for s in generated("--seed", "2", "--count", "2000", "--refused") if len(s) <= 1200)
 
 
-def added():
-    """The examples of the change requests."""
-    yield from (text for _, text, _ in cases.CHANGED)
-
-
 def main():
     oracle, folder = sys.argv[1:]
     data, count = b"", 0
-    for sheets, most in ((chosen(), MOST), (added(), ROOM)):
-        for sheet in sheets:
-            piece = b"#sheet %d\n" % len(sheet) + sheet
-            if len(data) + len(piece) <= most:
-                data += piece
-                count += 1
+    for sheet in chosen():
+        piece = b"#sheet %d\n" % len(sheet) + sheet
+        if len(data) + len(piece) <= MOST:
+            data += piece
+            count += 1
+    for _, sheet, _ in cases.CHANGED:
+        data += b"#sheet %d\n" % len(sheet) + sheet
+        count += 1
+    if len(data) > ALL:
+        sys.exit("replay.py: %d bytes, more than the program takes" % len(data))
     out = subprocess.run([oracle], input=data, stdout=subprocess.PIPE, check=True).stdout.decode("ascii")
     lines = [line for line in out.splitlines() if line.startswith("#sheet ") or not line.startswith("#")]
     with open(os.path.join(folder, "stdin"), "wb") as file:

@@ -6,5 +6,6 @@ pub mod BitLaws
 pub mod RootLaws
 pub mod RootNearest
 pub mod ShownLaws
+pub mod FairLaws
 mod Squares
 mod Rounded

@@ -1,6 +1,6 @@
 -- The nearest root of A * 4 ^ k, from the whole root q of A and what it leaves: q, or q + 1 where more than q is left. A tie cannot be.
 use mathlib.Core.Path.{_≡_, refl, sym, ap, _∙_}
-use Prim.Native.Nat.{ℕ, zero, suc, _+_, _-_, _*_, _/_, _^_, _≤_, _<_, compare, Ordering, Ordering·lt, Ordering·gt, compare·zero-suc, compare·suc-zero, compare·suc-suc}
+use Prim.Native.Nat.{ℕ, zero, suc, _+_, _-_, _*_, _/_, _^_, _≤_, _<_, compare, Ordering, Ordering·lt, Ordering·eq, Ordering·gt, compare·zero-suc, compare·suc-zero, compare·suc-suc}
 use native.Mathlib.Nat.{pow-suc, one-le-pow, zero-lt-suc, le-of-suc-le-suc, not-suc-le-zero, le-trans, le-of-eq, le-antisymm, lt-of-lt-of-le, lt-of-le-of-lt, lt-irrefl, mul-assoc, mul-mul-mul-comm, mul-le-mul-right, mul-lt-mul-of-pos-right, div-eq-of-lt-le}
 use native.Mathlib.Omega.{arith}
 use mathlib.Core.Bool.{false}
@@ -23,6 +23,13 @@ compare-gt zero zero h = absurd (lt-irrefl 0 h)
 compare-gt zero (suc b) h = absurd (not-suc-le-zero h)
 compare-gt (suc a) zero h = compare·suc-zero a
 compare-gt (suc a) (suc b) h = compare·suc-suc a b ∙ compare-gt a b (le-of-suc-le-suc h)
+
+pub compare-eq : (a b : ℕ) → a ≡ b → compare a b ≡ Ordering·eq
+compare-eq a b e = ap (compare a) (sym e) ∙ itself a
+  where
+    itself : (n : ℕ) → compare n n ≡ Ordering·eq
+    itself zero = refl
+    itself (suc n) = compare·suc-suc n n ∙ itself n
 
 -- ---- how many digits a number has
 

@@ -1,43 +1,58 @@
 -- What the functions under `shown` use of the rule, and of signed numbers. Only the first section looks into `ruled`.
 use mathlib.Core.Path.{_≡_, refl, sym, ap, _∙_}
-use Prim.Native.Nat.{ℕ, zero, suc, _+_, _-_, _*_, _/_, _^_, _≤_, _<_, min}
-use native.Mathlib.Nat.{le-trans, le-of-eq, le-of-lt, lt-of-lt-of-le, mul-assoc, mul-le-mul, min-eq-right, le-div-iff-mul-le, div-eq-of-lt}
+use Prim.Native.Nat.{ℕ, zero, suc, _+_, _-_, _*_, _/_, _%_, _^_, _≤_, _<_, min, compare}
+use native.Mathlib.Nat.{le-trans, le-of-eq, le-of-lt, one-mul, mul-assoc, mul-le-mul, min-eq-right, le-div-iff-mul-le, div-eq-of-lt, mod-le, mod-eq-of-lt}
 use native.Mathlib.Omega.{arith}
 use mathlib.Core.Bool.{Bool, false}
 use lib.IntN.{ℤ, pos, negℤ, _-ℤ_, +ℤ-idl}
-use lib.Dec.{lit≤}
-use lib.Pow.{pow-add, pow-pos, pow-mono}
-use lib.Ieee.{Float, nan, inf, fin, up, down}
+use lib.Pow.{pow-add, pow-pos, pow-mono, pow-lt}
+use lib.Ieee.{Float, nan, inf, fin, up, down, nearest}
 use lib.Ieee.Fits.{down-pos}
 use lib.Ieee.Exact.{HasValue}
-use lib.Ieee.Nearest.{div-same}
+use lib.Ieee.Nearest.{closest-same, nearest-ge}
 use mir.Syntax.{w64}
 use mir.Val.{SFits, toZ}
 use mir.ValLaws.{toZ-pos}
 use Rattle.numbers.specs.Tests.{isFinite}
 use Rattle.numbers.specs.Shown.{ruled, mostShown, signed, shownOf}
 use Rattle.numbers.proofs.TestLaws.{fails}
+use Rattle.numbers.proofs.Rounded.{compare-lt, compare-eq, compare-gt}
 
 -- ---- the rule
+
+-- the quotient, the even one, or the next number
+pub ruled-less : (a b : ℕ) → a % b * 2 < b → a / b ≡ ruled a b
+unfolding ruled
+ruled-less a b h = sym (ap (nearest (a / b)) (compare-lt (a % b * 2) b h))
+
+pub ruled-half : (a b : ℕ) → a % b * 2 ≡ b → a / b + a / b % 2 ≡ ruled a b
+unfolding ruled
+ruled-half a b h = sym (ap (nearest (a / b)) (compare-eq (a % b * 2) b h))
+
+pub ruled-more : (a b : ℕ) → b < a % b * 2 → suc (a / b) ≡ ruled a b
+unfolding ruled
+ruled-more a b h = sym (ap (nearest (a / b)) (compare-gt (a % b * 2) b h))
 
 -- equal fractions
 pub ruled-same : (a b c d : ℕ) → 0 < b → 0 < d → a * d ≡ c * b → ruled a b ≡ ruled c d
 unfolding ruled
-ruled-same a b c d B D e = div-same a b c d B D e
+ruled-same a b c d B D e = closest-same a b c d B D e
 
 -- a fraction that is n at least
 pub ruled-ge : (a b n : ℕ) → 0 < b → n * b ≤ a → n ≤ ruled a b
 unfolding ruled
-ruled-ge a b n B h = le-div-iff-mul-le B .1 h
+ruled-ge a b n B h = le-trans (le-div-iff-mul-le B .1 h) (nearest-ge (a / b) (compare (a % b * 2) b))
 
--- by a shift
-pub ruled-shift : (n by : ℕ) → n / 2 ^ by ≡ ruled n (2 ^ by)
-unfolding ruled
-ruled-shift n by = refl
-
+-- below a half
 pub ruled-small : (n by : ℕ) → n < 2 ^ 63 → 64 ≤ by → 0 ≡ ruled n (2 ^ by)
-unfolding ruled
-ruled-small n by h l = sym (div-eq-of-lt (lt-of-lt-of-le h (pow-mono {i = 63} (le-trans (lit≤ tt) l))))
+ruled-small n by h l =
+    let big : 2 ^ 64 ≤ 2 ^ by = pow-mono {i = 64} l in
+    let rest : n % 2 ^ by ≤ n = mod-le n (2 ^ by) in
+    sym (div-eq-of-lt (omega arith)) ∙ ruled-less n (2 ^ by) (omega arith)
+
+-- a shift of 1 by less than 64 loses nothing
+pub shifted-one : (by : ℕ) → by < 64 → 1 * 2 ^ by % 2 ^ 64 ≡ 2 ^ by
+shifted-one by h = ap (λ (x : ℕ). x % 2 ^ 64) (one-mul (2 ^ by)) ∙ mod-eq-of-lt (pow-lt h)
 
 -- ---- 1000 * digits * 2 ^ power smallest values
 

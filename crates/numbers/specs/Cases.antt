@@ -2,19 +2,14 @@
 use Prim.Native.Nat.{ℕ}
 use mathlib.Core.Path.{_≡_, refl}
 use mathlib.Core.Bool.{true, false}
-use lib.IntN.{ℤ, pos, negsuc}
-use lib.Ieee.{nan, inf, binary64, add, mul, eq, le, ofBits, toBits}
+use lib.Ieee.{nan, binary64, add, mul, eq, le, ofBits, toBits}
 use Rattle.numbers.specs.Constants.{sineT, cosineT}
 use Rattle.numbers.specs.Tests.{inUnit}
 use Rattle.numbers.specs.Root.{sqrtOf}
-use Rattle.numbers.specs.Shown.{shownOf}
 use Rattle.numbers.specs.Bits.{printedBits}
 
 abbrev rootOf : ℕ → ℕ
 rootOf b = toBits binary64 (sqrtOf (ofBits binary64 b))
-
-abbrev shownAt : ℕ → ℤ
-shownAt b = shownOf (ofBits binary64 b)
 
 -- the roots of 2, 0.5, 0.25, the smallest value (2 ^ -537), the largest, and -0; -1 has none
 pub roots : (rootOf 0x4000_0000_0000_0000 ≡ 0x3ff6_a09e_667f_3bcd)
@@ -33,24 +28,6 @@ pub circle : (toBits binary64 (mul binary64 sineT sineT) ≡ 0x3fdf_ffff_ffff_ff
     × (toBits binary64 (add binary64 (mul binary64 sineT sineT) (mul binary64 cosineT cosineT)) ≡ 0x3ff0_0000_0000_0000)
 unfolding add mul ofBits toBits
 circle = (refl, refl, refl)
-
--- case A's mean is shown as 707, and -0.0009 as 0
-pub shown-means : (shownAt 0x3fe6_a09e_667f_3bcd ≡ pos 707) × (shownAt 0xbf4d_7dbf_487f_cb92 ≡ pos 0)
-unfolding shownOf ofBits
-shown-means = (refl, refl)
-
--- 1e300 and -1e300 are held at 999,999,999 and -999,999,999, and -∞ shows 0
-pub shown-held : (shownAt 0x7e37_e43c_8800_759c ≡ pos 999999999) × (shownAt 0xfe37_e43c_8800_759c ≡ negsuc 999999998) × (shownOf (inf true) ≡ pos 0)
-unfolding shownOf ofBits
-shown-held = (refl, refl, refl)
-
--- 1000 times 0.0625 and 0.1875 are 62.5 and 187.5 exactly: cut toward zero, with either sign
-pub shown-halves : (shownAt 0x3fb0_0000_0000_0000 ≡ pos 62)
-    × (shownAt 0xbfb0_0000_0000_0000 ≡ negsuc 61)
-    × (shownAt 0x3fc8_0000_0000_0000 ≡ pos 187)
-    × (shownAt 0xbfc8_0000_0000_0000 ≡ negsuc 186)
-unfolding shownOf ofBits
-shown-halves = (refl, refl, refl, refl)
 
 -- -0 prints as +0
 pub printed-zero : printedBits (ofBits binary64 0x8000_0000_0000_0000) ≡ 0

@@ -1,12 +1,15 @@
--- "`shown` is the exact 1000 × mean cut toward zero, held within ±999,999,999."
-use Prim.Native.Nat.{ℕ, _*_, _/_, min}
+-- The number on the bar: "`shown` is the exact 1000 × mean .., held within ±999,999,999", by the rule of request 2026-03. What the rule comes to is
+-- said in specs/Fair.antt.
+use Prim.Native.Nat.{ℕ, _*_, _/_, _%_, min, compare}
 use mathlib.Core.Bool.{Bool, true, false}
 use lib.IntN.{ℤ, pos, negℤ}
-use lib.Ieee.{Float, nan, inf, fin, up, down}
+use lib.Ieee.{Float, nan, inf, fin, up, down, nearest}
 
--- "cut toward zero": the rule by which the size a / b becomes a whole number
+-- "nearest thousandth, an exact half to the even thousandth": the rule by which the size a / b becomes a whole number. It is the quotient or the next
+-- number, by how twice the remainder compares with b, and where they are equal the even one of the two. "The half is judged on the exact product,
+-- never on a rounded one": a / b is the exact 1000 × |mean|.
 unfoldable pub ruled : ℕ → ℕ → ℕ
-ruled a b = a / b
+ruled a b = nearest (a / b) (compare (a % b * 2) b)
 
 -- "held within ±999,999,999"
 abbrev pub mostShown : ℕ
@@ -16,7 +19,8 @@ abbrev pub signed : Bool → ℕ → ℤ
 signed false n = pos n
 signed true n = negℤ (pos n)
 
--- A mean is finite where it is shown. A NaN and an infinity have no number, and 0 stands for them.
+-- "The clamp is applied after rounding", "the negatives mirror them". A mean is finite where it is shown. A NaN and an infinity have no number, and 0
+-- stands for them.
 unfoldable pub shownOf : Float → ℤ
 unfolding ruled
 shownOf nan = pos 0

@@ -5,7 +5,7 @@ ghost use Rattle.numbers.specs.Shown.{ruled, mostShown, shownOf};
 use crate::bits::parts_of;
 use crate::tests::is_finite;
 
-// The exact 1000 * mean, cut toward zero and held within ±999,999,999; 0 for a NaN and an infinity.
+// The exact 1000 * mean to the nearest whole number, an exact half to the even one, held within ±999,999,999; 0 for a NaN and an infinity.
 pub fn shown(mean: f64) -> i64
     ensures { λ r. ⌜ r ≡ shownOf mean ⌝ }
 {
@@ -39,5 +39,24 @@ fn ruled_shift(n: u64, by: u64) -> u64
     requires { ⌜ n < 2 ^ 63 ⌝ }
     ensures { λ r. ⌜ r ≡ ruled n (2 ^ by) ⌝ }
 {
-    if by < 64 { n >> by } else { 0 }
+    if by < 64 {
+        return round_half_even(n, 1u64 << by);
+    }
+    0
+}
+
+// n / unit as a whole number, by the rule: the quotient or the next number, and at an exact half the even one of the two.
+fn round_half_even(n: u64, unit: u64) -> u64
+    requires { ⌜ (n < 2 ^ 63) × (0 < unit) ⌝ }
+    ensures { λ r. ⌜ r ≡ ruled n unit ⌝ }
+{
+    let whole = n / unit;
+    let twice = n % unit * 2;
+    if twice < unit {
+        return whole;
+    }
+    if twice == unit {
+        return whole + whole % 2;
+    }
+    whole + 1
 }
