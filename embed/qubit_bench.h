@@ -67,7 +67,9 @@ extern "C" {
  * 6  A qubit stands twice in one term, or in both targets of one op.
  * 7  Too little memory was lent: fewer than 2 * limit rows, or for `all` fewer mean places than qubits. L is 0.
  * 8  During the run a number went beyond what binary64 holds. L is 0.
- * 9  The circuit made more terms than `limit`: raise it, or truncate by `epsilon` and `max_terms`. L is 0. */
+ * 9  The circuit made more terms than `limit`: raise it, or truncate by `epsilon` and `max_terms`. L is 0.
+ * 11 A sine and a cosine are no angle: cut to whole multiples of 2^-60, their squares differ from 1 in sum by more than 2^-50; or the rates of `pauli`, cut
+ *    alike, sum to more than 1. Asked after 4. Memory is as after 1 to 7. */
 size_t qubit_bench_answer(const uint8_t *sheet, size_t sheet_len,
                           uint64_t *words, size_t words_len,
                           double *coeffs, size_t coeffs_len,

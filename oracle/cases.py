@@ -116,7 +116,7 @@ CASES += [
     ("7, limit 256", sheet(limit=256), ok()),
     ("no terms", sheet([]), ok(peak_terms=0)),
     ("all without ops", sheet([], run="all", qubits=2), ok(peak_terms=0, z=[ONE, ONE])),
-    ("sine and cosine 0", sheet(["X0"], ["rz:0:%s,%s" % (ZERO, ZERO)]), ok(t_count=1)),
+    ("sine and cosine 0", sheet(["X0"], ["rz:0:%s,%s" % (ZERO, ZERO)]), no(11, 9)),
 ]
 
 # Where prism-q differs (but for 2 and 3, where it does not look at a later line
@@ -168,6 +168,12 @@ DIFFERENCES = [
     ("14, rate 2", sheet(ops=["damp:0:4000000000000000"], run="path"), no(4, 9), ANSWERS),
     ("15, limit 257", sheet(limit=257), no(7), ANSWERS),
 ]
+# The same of sheets that a request of document 02 refuses: what prism-q alone says.
+BESIDE = [
+    ("16, no angle", sheet(ops=["rz:0:%s,%s" % (ONE, ONE)]), ANSWERS),
+    ("16, rates above 1", sheet(ops=["pauli:0:%s,%s,%s" % (ONE, ONE, ZERO)], run="path"), ANSWERS),
+]
+
 
 def thirty(eighth, last):
     """A sheet of 30 lines on two qubits, with what stands on its lines 8 and 30."""
@@ -215,6 +221,49 @@ for weight, number in [
     CHANGED.append(("2026-03, mean " + weight, sheet([weight + ":"]), ok(weight, number)))
     CHANGED.append(("2026-03, mean " + minus, sheet([minus + ":"]), ok(minus, -number)))
 
+# 2026-06: a pair or a triple of Pauli rates, in one op, with the answer it has.
+SIX, EIGHT = "3fe3333333333333", "3fe999999999999a"
+for name, op, lines in [
+    ("sine 1, cosine 1", "rz:0:%s,%s" % (ONE, ONE), no(11, 9)),
+    ("sine 0, cosine 0", "p:0:%s,%s" % (ZERO, ZERO), no(11, 9)),
+    ("a quarter turn", "rz:0:%s,%s" % (ONE, ZERO), ok(t_count=1)),
+    ("half a turn", "p:0:%s,%s" % (ZERO, MINUS), ok(t_count=1)),
+    ("0.6 and 0.8", "rz:0:%s,%s" % (SIX, EIGHT), ok(t_count=1, peak_terms=2)),
+    ("the pair of t", "rz:0:%s,%s" % (T_SINE, T_COSINE), ok(t_count=1, peak_terms=2)),
+    ("2^-25 and 1, at the bound", "rz:0:3e60000000000000," + ONE, ok(t_count=1, peak_terms=2)),
+    ("the last sine cut to 2^-25", "rz:0:3e6000000001ffff," + ONE, ok(t_count=1, peak_terms=2)),
+    ("the sine after it", "rz:0:3e60000000020000," + ONE, no(11, 9)),
+    ("the last cosine below 1", "rz:0:%s,3feffffffffffffc" % ZERO, ok(t_count=1)),
+    ("the cosine below it", "rz:0:%s,3feffffffffffffb" % ZERO, no(11, 9)),
+    ("0.6, the first cosine", "p:0:%s,3fe9999999999995" % SIX, ok(t_count=1, peak_terms=2)),
+    ("0.6, the cosine below it", "p:0:%s,3fe9999999999994" % SIX, no(11, 9)),
+    ("0.6, the last cosine", "p:0:%s,3fe999999999999e" % SIX, ok(t_count=1, peak_terms=2)),
+    ("0.6, the cosine above it", "p:0:%s,3fe999999999999f" % SIX, no(11, 9)),
+    ("a sine of 2, which is 4", "rz:0:4000000000000000," + ZERO, no(4, 9)),
+    ("a sine NaN, which is 4", "rz:0:%s,%s" % (NAN, ZERO), no(4, 9)),
+]:
+    CHANGED.append(("2026-06, " + name, sheet(ops=[op]), lines))
+HALF, QUARTER = "3fe0000000000000", "3fd0000000000000"
+for name, op, lines in [
+    ("rates that sum to 1", "pauli:0:%s,%s,%s" % (HALF, QUARTER, QUARTER), ok()),
+    ("one rate more", "pauli:0:%s,%s,3fd0000000000001" % (HALF, QUARTER), no(11, 9)),
+    ("1 and rates below 2^-60", "pauli:0:%s,3c2fffffffffffff,0000000000000001" % ONE, ok()),
+    ("1 and 2^-60", "pauli:0:%s,3c30000000000000,%s" % (ONE, ZERO), no(11, 9)),
+    ("thermal is not asked", "thermal:0:%s,%s,%s" % (ONE, ONE, ONE), ok(peak_terms=1)),
+]:
+    CHANGED.append(("2026-06, " + name, sheet(ops=[op], run="path"), lines))
+CHANGED += [
+    ("2026-06, rzz", sheet(["X0"], ["rzz:0,1:%s,%s" % (ONE, ONE)], 2), no(11, 9)),
+    ("2026-06, 4 before 11", sheet([NAN + ":X0"], ["rz:0:%s,%s" % (ONE, ONE)]), no(4, 7)),
+    ("2026-06, 4 at a later op before 11", sheet(["X0"], ["rz:0:%s,%s" % (ONE, ONE), "rz:0:4000000000000000," + ZERO]), no(4, 10)),
+    ("2026-06, 11 before 5 on an earlier line", sheet(["X1"], ["rz:0:%s,%s" % (ONE, ONE)]), no(11, 9)),
+    ("2026-06, 11 before 6 on its line", sheet(["X0"], ["rzz:0,0:%s,%s" % (ONE, ONE)]), no(11, 9)),
+    ("2026-06, 11 before 7", sheet(["X0"], ["rz:0:%s,%s" % (ONE, ONE)], limit=257), no(11, 9)),
+    ("2026-06, in all", sheet([], ["p:0:%s,%s" % (ONE, ONE)], run="all"), no(11, 8)),
+    ("2026-06, in cone, unmarked", sheet(["Z0"], ["p:1:%s,%s" % (ONE, ONE)], 2, "cone"), no(11, 9)),
+    ("2026-06, the second of two", sheet(["X0"], ["rz:0:%s,%s" % (SIX, EIGHT), "p:0:%s,%s" % (ONE, ONE)]), no(11, 10)),
+]
+
 
 def answers(command, texts):
     data = b"".join(b"#sheet %d\n" % len(text) + text for text in texts)
@@ -252,13 +301,14 @@ def main():
             print("%s: wanted %s, got %s" % (name, lines, found))
     print("%d sheets, %d wrong" % (len(wanted), bad))
     if given.raw:
-        got = answers(shlex.split(given.raw) + ["--raw"], [text for _, text, _, _ in DIFFERENCES])
+        raw = [(name, text, says) for name, text, _, says in DIFFERENCES] + BESIDE
+        got = answers(shlex.split(given.raw) + ["--raw"], [text for _, text, _ in raw])
         wrong = 0
-        for (name, _, _, wanted_of_it), found in zip(DIFFERENCES, got):
+        for (name, _, wanted_of_it), found in zip(raw, got):
             if not said(found).startswith(wanted_of_it):
                 wrong += 1
                 print("%s: wanted %s, got %s" % (name, wanted_of_it, found))
-        print("%d differences, %d not as listed" % (len(DIFFERENCES), wrong))
+        print("%d differences, %d not as listed" % (len(raw), wrong))
         bad += wrong
     sys.exit(1 if bad else 0)
 

@@ -4,14 +4,18 @@
   generate.py --seed 1 --count 10000 [--kinds small=4,wide=1] > stream
   generate.py --seed 1 --count 10000 --refused > stream
   generate.py --seed 1 --count 10000 --qubits > stream
+  generate.py --seed 1 --count 10000 --angles > stream
 
 The first form writes sheets that pass questions 1 to 7 (but for a few terms
 with one qubit outside or repeated); the second writes sheets with faults of
 every class, 1 to 8, and a few with more than one; the third writes sheets with
-several qubits outside or repeated, on one line and on different ones.
+several qubits outside or repeated, on one line and on different ones. With
+--angles most pairs are angles and most Pauli rates sum to at most 1; some are
+the last that question 11 takes, or the first that it does not.
 """
 
 import argparse
+import fractions
 import math
 import random
 import struct
@@ -43,6 +47,11 @@ def negative(text):
 
 def value(text):
     return struct.unpack(">d", bytes.fromhex(text))[0]
+
+
+def multiples(real):
+    """How many whole multiples of 2^-60 the size of a number has."""
+    return math.floor(abs(fractions.Fraction(real)) * 2**60)
 
 
 class Sheet:
@@ -80,6 +89,7 @@ class Maker:
         self.random = random.Random(seed)
         self.choice = self.random.choice
         self.extreme = False
+        self.angles = False
 
     def chance(self, share):
         return self.random.random() < share
@@ -118,7 +128,38 @@ class Maker:
             text = bits(self.random.random())
         return negative(text) if self.chance(0.5) else text
 
+    def bound_pair(self):
+        """A pair next to a bound of question 11, on either side of it."""
+        one = self.random.random() * 2.0 ** -self.random.randrange(30)
+        if self.chance(0.2):
+            one = self.choice([2.0**-25, 1.0, 0.5, 0.0, 2.0**-26, 0.6])
+        edge = 2**120 + self.choice([1, -1]) * 2**70 - multiples(one) ** 2
+        other = float(fractions.Fraction(math.isqrt(max(edge, 0)), 2**60))
+        for _ in range(self.random.randrange(3)):
+            other = math.nextafter(other, self.choice([0.0, 2.0]))
+        found = [bits(one), bits(min(other, 1.0))]
+        found = [negative(text) if self.chance(0.5) else text for text in found]
+        self.random.shuffle(found)
+        return tuple(found)
+
+    def mix(self):
+        """Pauli rates that sum to at most 1, and some next to that bound."""
+        rates = [self.random.random() / 3 * 2.0 ** -self.random.randrange(3) for _ in range(2)]
+        if self.chance(0.3):
+            rates = [self.choice([0.0, 0.5, 0.25, 2.0**-61, 1.0, 2.0**-60]) for _ in range(2)]
+        last = self.random.random() / 3
+        if self.chance(0.3):
+            left = 2**60 - multiples(rates[0]) - multiples(rates[1])
+            last = float(fractions.Fraction(max(left, 0), 2**60))
+            for _ in range(self.random.randrange(3)):
+                last = math.nextafter(last, self.choice([0.0, 2.0]))
+        rates.append(min(last, 1.0))
+        self.random.shuffle(rates)
+        return [bits(rate) for rate in rates]
+
     def pair(self):
+        if self.angles and self.chance(0.9):
+            return self.bound_pair() if self.chance(0.02) else self.angle()
         kind = self.random.randrange(12)
         if kind < 3:
             exact = [(ZERO, ONE), (ONE, ZERO), (negative(ONE), ZERO), (ZERO, negative(ONE))]
@@ -189,6 +230,8 @@ class Maker:
                 return (name, self.random.sample(active, 2), reals)
             if name in ("pauli", "thermal") and self.chance(0.7):
                 reals = [bits(self.random.random() / 3) for _ in range(3)]
+            if name == "pauli" and self.angles:
+                reals = self.mix()
             return (name, [self.choice(active)], reals)
         two = len(active) > 1 and self.chance(0.3)
         if self.chance(branching):
@@ -649,8 +692,10 @@ def main():
     parser.add_argument("--kinds", default=DEFAULT, help="kind=share,.. of " + DEFAULT)
     parser.add_argument("--refused", action="store_true")
     parser.add_argument("--qubits", action="store_true")
+    parser.add_argument("--angles", action="store_true")
     given = parser.parse_args()
     maker = Maker(given.seed)
+    maker.angles = given.angles
     shares = dict(part.split("=") for part in given.kinds.split(","))
     kinds, weights = list(shares), [float(share) for share in shares.values()]
     out = sys.stdout.buffer

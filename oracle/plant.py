@@ -22,7 +22,7 @@ import cases
 
 HERE = os.path.dirname(os.path.abspath(__file__))
 PAULI, WORDS = "sim/unified_pauli.rs", "sim/compiled/propagation.rs"
-OURS, HOOK = "main.rs", "hook.rs"
+OURS, HOOK, SHEET = "main.rs", "hook.rs", "sheet.rs"
 MINUS, PLUS = "Complex64::new(-1.0, 0.0)", "Complex64::new(1.0, 0.0)"
 TURN, BACK = "Complex64::new(0.0, 1.0)", "Complex64::new(0.0, -1.0)"
 ENFORCE = "truncation.enforce(&mut sum, &mut total_discarded);"
@@ -217,6 +217,17 @@ PLANTS = [
     ("shown from a rounded product", OURS, "fn shown(", "thousands % one)", "thousands % one >> 10 << 10)"),
     ("shown held at 10^9", OURS, "fn shown(", "999_999_999", "1_000_000_000"),
     ("shown without its sign", OURS, "fn shown(", "{ -size }", "{ size }"),
+    ("5 before 6 over the whole sheet", SHEET, "pub fn refusal(", "(fault.line, fault.status)", "(fault.status, fault.line as u32)"),
+    ("6 before 5 on one line", SHEET, "pub fn refusal(", "(fault.line, fault.status)", "(fault.line, 6 - fault.status)"),
+    ("11 cut to nearest", SHEET, "fn multiples(", "digits.checked_shr(1014 - power as u32).unwrap_or(0)", "(digits.checked_shr(1013 - power as u32).unwrap_or(0) + 1) / 2"),
+    ("11 with 2^-51", SHEET, "fn holds(", "1 << 70", "1 << 69"),
+    ("11 with a strict bound", SHEET, "fn holds(", "<= 1 << 70", "< 1 << 70"),
+    ("11 with rates below 1", SHEET, "fn holds(", "<= 1 << 60", "< 1 << 60"),
+    ("11 of numbers that are not cut", SHEET, "fn holds(", "(cut[0] * cut[0] + cut[1] * cut[1]).abs_diff(1 << 120) <= 1 << 70", "(op.reals[0] * op.reals[0] + op.reals[1] * op.reals[1] - 1.0).abs() <= 2f64.powi(-50)"),
+    ("11 of thermal", SHEET, "fn holds(", '"pauli" =>', '"pauli" | "thermal" =>'),
+    ("11 not of p", SHEET, "fn holds(", '"rz" | "p" | "rzz"', '"rz" | "rzz"'),
+    ("11 after 5 and 6", SHEET, "pub fn refusal(", "if let Some(line) = question_11(sheet)", "if let (Some(line), true) = (question_11(sheet), faults(sheet).is_empty())"),
+    ("11 before 4", SHEET, "pub fn refusal(", "[question_2, question_3, question_4]", "[question_2, question_3, |s: &Sheet| question_11(s).map_or_else(|| question_4(s), |_| None)]"),
 ]
 
 

@@ -281,13 +281,41 @@ fn question_4(sheet: &Sheet) -> Option<usize> {
     Some(8 + sheet.terms.len() + at)
 }
 
-/// The first of questions 2 to 7 that fails, and its line.
+/// A number of question 4's ranges, cut toward zero to whole multiples of 2^-60: how many its size has. 2^-1074 times the digits, shifted by the
+/// exponent, is the number; 1074 - 60 is 1014.
+fn multiples(real: f64) -> u128 {
+    let (exponent, low) = (real.to_bits() >> 52 & 0x7ff, real.to_bits() & 0xf_ffff_ffff_ffff);
+    let (digits, power) = if exponent == 0 { (low, 0) } else { (low | 1 << 52, exponent - 1) };
+    let digits = u128::from(digits);
+    if power >= 1014 { digits << (power - 1014) } else { digits.checked_shr(1014 - power as u32).unwrap_or(0) }
+}
+
+/// Question 11 of one op: rz, p and rzz have an angle, the rates of pauli sum to at most 1.
+fn holds(op: &Op) -> bool {
+    let cut: Vec<u128> = op.reals.iter().map(|real| multiples(*real)).collect();
+    match op.name {
+        "rz" | "p" | "rzz" => (cut[0] * cut[0] + cut[1] * cut[1]).abs_diff(1 << 120) <= 1 << 70,
+        "pauli" => cut.iter().sum::<u128>() <= 1 << 60,
+        _ => true,
+    }
+}
+
+fn question_11(sheet: &Sheet) -> Option<usize> {
+    let at = sheet.ops.iter().position(|op| !holds(op))?;
+    Some(8 + sheet.terms.len() + at)
+}
+
+/// The first of questions 2 to 7 that fails, 11 after 4, and its line.
 pub fn refusal(sheet: &Sheet, rows: u64, means: u64) -> Option<(u32, usize)> {
     let asked = [question_2, question_3, question_4];
     for (status, question) in (2u32..).zip(asked) {
         if let Some(line) = question(sheet) {
             return Some((status, line));
         }
+    }
+    // After 4 (2026-06).
+    if let Some(line) = question_11(sheet) {
+        return Some((11, line));
     }
     // 5 and 6 line by line, 5 before 6 on one line (2026-01).
     let faults = faults(sheet);

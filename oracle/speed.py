@@ -119,12 +119,12 @@ def generated(options, count):
 
 def answered(out):
     """The first 2,000 sheets of seed 1 that are answered 0."""
-    sheets = generated(["--seed", "1"], 2500)
+    sheets = generated(["--seed", "1"], 3000)
     file = os.path.join(out, "sheets", "all-statuses")
     write(file, 512, 256, sheets)
     command = [os.path.join(out, "speed"), "--texts", file]
     texts = subprocess.run(command, stdout=subprocess.PIPE, check=True).stdout
-    statuses = re.findall(rb"^status=(\d)$", texts, re.M)
+    statuses = re.findall(rb"^status=(\d+)$", texts, re.M)
     os.remove(file)
     return [sheet for sheet, status in zip(sheets, statuses) if status == b"0"][:2000]
 

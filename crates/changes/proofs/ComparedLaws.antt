@@ -1,7 +1,7 @@
 -- The answers now beside those before, from the verdict now and the one before (`compared`). Assumes nothing.
 use Prim.Native.Nat.{ℕ}
 use mathlib.Core.Path.{_≡_, refl, sym, ap, _∙_, subst}
-use mathlib.Core.Bool.{Bool, true, false, cond}
+use mathlib.Core.Bool.{Bool, true, false, cond, _&&_}
 use mathlib.Core.List.{List, []}
 use lib.Dec.{ltb}
 use lib.ListN.{length}
@@ -19,6 +19,10 @@ use Rattle.sheet.specs.Questions.{verdict}
 use Rattle.sheet.specs.Answer.{refusal, runOf, replyRun, replyTo, replyOf, meansTo, printedOf, LeavesBy, Untouched}
 use Rattle.sheet.specs.Screen.{bench}
 use Rattle.changes.specs.Compared.{Change, replyBefore, printedBefore, benchBefore, isMoved, movedTo, Remains, Compared}
+
+pub and-false : (b : Bool) → (b && false) ≡ false
+and-false true = refl
+and-false false = refl
 
 each : {A D : Type 0} (f : A → D) (b : Bool) (x y : A) → f (cond b x y) ≡ cond b (f x) (f y)
 each f true x y = refl

@@ -11,12 +11,12 @@ use borrow.Author.Tests.{eqb-true, eq-eqb, ne-eqb, lt-ltb, le-ltb}
 use Rattle.lines.specs.TermLines.{lineOn}
 use Rattle.layout.specs.declared.Head.{Head}
 use Rattle.layout.specs.Layout.{question1, termLines, opList}
-use Rattle.sheet.specs.declared.Asked.the-variants.{Two, Three, Four}
+use Rattle.sheet.specs.declared.Asked.the-variants.{Two, Three, Four, Eleven}
 use Rattle.sheet.specs.declared.Verdict.{Verdict}
 use Rattle.sheet.specs.declared.Verdict.the-variants.{RefusedAt, Passed}
 use Rattle.sheet.specs.Questions.{question5, question6, question7, _orElse_, firstOf, refusedOr, lineOf, byQuestion, faultOf, opFault, firstFault, byLine, roomVerdict, verdict}
 use Rattle.changes.specs.TopLine.{outsideLine, repeatLine, oneByOne, topLine, TopLineFirst}
-use Rattle.changes.proofs.ComparedLaws.{raised, RunsAlike, IsRaised, compared}
+use Rattle.changes.proofs.ComparedLaws.{and-false, raised, RunsAlike, IsRaised, compared}
 
 -- ---- lines, where 0 stands for none
 
@@ -52,10 +52,6 @@ late-first p k (a ∷ l) c h e = go (p a) (late-first p (suc k) l c (omega arith
 -- ---- 5 and 6 from the first line of each: 6 where the repeat stands earlier, else 5 before 6
 top : ℕ → ℕ → Verdict → Verdict
 top five six v = cond (ltb 0 six && ltb six five) (RefusedAt 6 six) (refusedOr 5 five (refusedOr 6 six v))
-
-and-false : (b : Bool) → (b && false) ≡ false
-and-false true = refl
-and-false false = refl
 
 -- no line stands before line 0
 none-before : (n : ℕ) → (ltb 0 n && ltb n 0) ≡ false
@@ -169,8 +165,10 @@ verdict-raised : IsRaised topLine
 unfolding verdict oneByOne
 verdict-raised h ls rows places =
     let v = roomVerdict h rows places in
-    ap (byQuestion h ls) (by-line-is h ls v ∙ top-raised h ls v (room-raised h ls rows places))
-    ∙ questions-raised h ls (refusedOr 5 (outsideLine h ls) (refusedOr 6 (repeatLine h ls) v))
+    let w = refusedOr 5 (outsideLine h ls) (refusedOr 6 (repeatLine h ls) v) in
+    let e = lineOf Eleven h ls in
+    ap (λ (u : Verdict). byQuestion h ls (refusedOr 11 e u)) (by-line-is h ls v ∙ top-raised h ls v (room-raised h ls rows places))
+    ∙ ap (byQuestion h ls) (sym (raised-past h ls 11 e w refl)) ∙ questions-raised h ls (refusedOr 11 e w)
 
 -- a run is no 5 at a line
 runs-alike : RunsAlike topLine

@@ -6,8 +6,9 @@ use mathlib.Core.List.{List}
 use lib.Dec.{eqb, ltb}
 use Rattle.layout.specs.declared.Head.{Head}
 use Rattle.layout.specs.Layout.{termLines, opList}
+use Rattle.sheet.specs.declared.Asked.the-variants.{Eleven}
 use Rattle.sheet.specs.declared.Verdict.{Verdict}
-use Rattle.sheet.specs.Questions.{question5, question6, firstNo, refusedOr, byQuestion, roomVerdict}
+use Rattle.sheet.specs.Questions.{question5, question6, firstNo, refusedOr, lineOf, byQuestion, roomVerdict}
 use Rattle.changes.specs.Compared.{Change, Compared}
 
 -- the first line with a qubit outside, and the first with a repeat; 0 for none
@@ -19,7 +20,11 @@ repeatLine h ls = firstNo question6 (h .terms) (termLines h ls) (opList h ls)
 
 -- before: "Each is put to the whole sheet before the next, 1 to 7; the line returned is the first that fails"
 unfoldable pub oneByOne : Head → List (List ℕ) → ℕ → ℕ → Verdict
-oneByOne h ls rows places = byQuestion h ls (refusedOr 5 (outsideLine h ls) (refusedOr 6 (repeatLine h ls) (roomVerdict h rows places)))
+oneByOne h ls rows places =
+    byQuestion h ls
+    (refusedOr 11 (lineOf Eleven h ls)
+    (refusedOr 5 (outsideLine h ls)
+    (refusedOr 6 (repeatLine h ls) (roomVerdict h rows places))))
 
 -- 5 at line k, and "a repeat on an earlier line"
 abbrev pub hides : Head → List (List ℕ) → ℕ → ℕ → Bool

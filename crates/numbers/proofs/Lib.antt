@@ -7,5 +7,8 @@ pub mod RootLaws
 pub mod RootNearest
 pub mod ShownLaws
 pub mod FairLaws
+pub mod CutLaws
+pub mod NormLaws
+mod LimbLaws
 mod Squares
 mod Rounded

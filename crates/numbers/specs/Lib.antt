@@ -1,10 +1,14 @@
--- What the contracts of this crate say. Constants to Bits are the definitions, Fair is what the rule of `shown` comes to, Close is numeric equality, Cases and ShownCases are worked values.
+-- What the contracts of this crate say. Constants to Angle are the definitions, Close is numeric equality; Fair is what the rule of `shown` comes to, Norm what a
+-- pair that is an angle gives; the files of cases are worked values.
 pub mod Constants
 pub mod Tests
 pub mod Root
 pub mod Shown
-pub mod Fair
 pub mod Bits
+pub mod Angle
 pub mod Close
+pub mod Fair
+pub mod Norm
 pub mod Cases
 pub mod ShownCases
+pub mod AngleCases

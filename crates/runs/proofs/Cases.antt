@@ -9,6 +9,7 @@ use lib.Ieee.{Float, binary64, neg, add, sub, mul, lt, le, eq, ofBits}
 use Rattle.numbers.specs.Constants.{zero64, one64, minusOne64, sineT, cosineT}
 use Rattle.numbers.specs.Root.{sqrtOf}
 use Rattle.numbers.specs.Shown.{shownOf}
+use Rattle.numbers.specs.Angle.{cutOf}
 use Rattle.words.specs.Keys.{Key, bitOf, flipOf, bitAt, flipAt, allZero, sameKey}
 use Rattle.words.specs.Gates.{conjKey}
 use Rattle.words.specs.declared.Gate.the-variants.{H}
@@ -27,15 +28,15 @@ use Rattle.turns.specs.Turn.{Stage, refused, going, Outcome, outcome, checked, 
 use Rattle.turns.specs.Runs.{runs, markedRun, begin, markAll, member, touches, coneOf, markCone}
 use Rattle.runs.specs.declared.Run.{Run}
 use Rattle.runs.specs.declared.Run.the-variants.{Full, Cone, Path}
-use Rattle.runs.specs.Task.{Line, Task, width, passes, every, lettersBelow, question2, question3, question4, question5, question6}
+use Rattle.runs.specs.Task.{Line, Task, width, passes, every, lettersBelow, question2, question3, question4, question11, question5, question6}
 use Rattle.runs.specs.Outcome.{termsOf, startOf, foldLines, outcomeOf}
 use Rattle.runs.specs.LightCone.{coneMarks}
 
 -- opens the definitions that the cases compute
 unfoldable computed : Unit {0}
-unfolding neg add sub mul lt le eq ofBits sqrtOf shownOf bitOf flipOf bitAt flipAt allZero sameKey conjKey foldl turnedOf sizeOf find isIn addTo
+unfolding cutOf neg add sub mul lt le eq ofBits sqrtOf shownOf bitOf flipOf bitAt flipAt allZero sameKey conjKey foldl turnedOf sizeOf find isIn addTo
     conjugated allFinite countY termOf share metBy partnerBy appendedRows rotated dampAction actionOf insert scaledLocal channeled keptOf tCount onWords act
-    checked settle ended finish runs markedRun member touches coneOf markCone every lettersBelow question2 question3 question4 question5 question6 termsOf foldLines
+    checked settle ended finish runs markedRun member touches coneOf markCone every lettersBelow question2 question3 question4 question11 question5 question6 termsOf foldLines
 computed = tt
 
 -- a real number by its bits

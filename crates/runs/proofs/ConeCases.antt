@@ -5,6 +5,7 @@ use mathlib.Core.Bool.{true, false}
 use mathlib.Core.List.{List, [], _∷_}
 use lib.Ieee.{Float, neg, add, mul, lt, le, eq, fits, ofBits}
 use Rattle.numbers.specs.Constants.{zero64, one64}
+use Rattle.numbers.specs.Angle.{cutOf}
 use Rattle.words.specs.Keys.{bitOf, flipOf, bitAt, flipAt, allZero, sameKey}
 use Rattle.words.specs.Gates.{conjKey}
 use Rattle.words.specs.declared.Gate.{Gate}
@@ -22,7 +23,7 @@ use Rattle.turns.specs.Ops.{onWords, act}
 use Rattle.turns.specs.Turn.{going, outcome, checked, settle, ended, finish}
 use Rattle.turns.specs.Runs.{runs, markedRun, member, touches, coneOf, markCone}
 use Rattle.turns.specs.MarkedOps.{SameOp, chosen}
-use Rattle.runs.specs.Task.{Task, every, lettersBelow, question2, question3, question4, question5, question6}
+use Rattle.runs.specs.Task.{Task, every, lettersBelow, question2, question3, question4, question11, question5, question6}
 use Rattle.runs.specs.Outcome.{termsOf}
 use Rattle.runs.specs.LightCone.{Equal, asFull, asCone, Passes, Binary64Values, coneMarks, Agree, endAs, Demand}
 use Rattle.runs.proofs.Demand.{demand3}
@@ -50,12 +51,12 @@ unfolding markCone coneOf touches member lettersBelow bitAt bitOf
 second-marks = refl
 
 first-passes : Passes first
-unfolding question2 question3 question4 question5 question6 every lettersBelow bitAt bitOf neg lt le eq ofBits
+unfolding cutOf question2 question3 question4 question11 question5 question6 every lettersBelow bitAt bitOf neg lt le eq ofBits
 first-passes asFull = refl
 first-passes asCone = refl
 
 second-passes : Passes second
-unfolding question2 question3 question4 question5 question6 every lettersBelow bitAt bitOf neg lt le eq ofBits
+unfolding cutOf question2 question3 question4 question11 question5 question6 every lettersBelow bitAt bitOf neg lt le eq ofBits
 second-passes asFull = refl
 second-passes asCone = refl
 

@@ -26,7 +26,7 @@ use Rattle.turns.specs.Runs.{markCone}
 use Rattle.turns.specs.Marks.{letterIn, lettersIn, coneMarks}
 use Rattle.turns.proofs.MarkLaws.{TargetsBelow}
 use Rattle.runs.specs.declared.Run.the-variants.{Cone}
-use Rattle.runs.specs.Task.{Task, width, question2, question3, question4, question5, question6, isOne, passes}
+use Rattle.runs.specs.Task.{Task, width, question2, question3, question4, question11, question5, question6, isOne, passes}
 use Rattle.runs.specs.Outcome.{observed}
 use Rattle.runs.specs.Table.{taskIn, SumRan, ConeRan}
 use Rattle.runs.proofs.CoverLaws.{cone-is}
@@ -76,9 +76,9 @@ module _ (qubits : ℕ) (l : Limits) (keys : List ℕ) (weights : List Float) (o
       → coneMarks (lettersIn (widthOf qubits) keys) ops ≡ markCone (observed (taskIn qubits l keys weights k ops)) ops
   cone-code k h =
       let t : Task = taskIn qubits l keys weights k ops in
-      let p = and-true (question2 t && question3 Cone t) (question4 t && (question5 t && question6 t)) h in
+      let p = and-true (question2 t && question3 Cone t) (question4 t && (question11 t && (question5 t && question6 t))) h in
       let q = and-true (question2 t) (question3 Cone t) (p .0) in
-      let r = and-true (question5 t) (question6 t) (and-true (question4 t) (question5 t && question6 t) (p .1) .1) in
+      let r = and-true (question5 t) (question6 t) (and-true (question11 t) (question5 t && question6 t) (and-true (question4 t) (question11 t && (question5 t && question6 t)) (p .1) .1) .1) in
       first-marks k (one-line t (q .1)) (targets-below t (counts-say t (q .0) .0) (r .0))
 
   pub cone-ran : (k : ℕ) {r : Ending} {ws ws′ : List ℕ} {cs cs′ : List Float} {ix ix′ : List ℕ}

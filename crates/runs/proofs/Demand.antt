@@ -36,7 +36,7 @@ use Rattle.turns.specs.MarkedOps.{SameOp, chosen, Holds}
 use Rattle.turns.proofs.Alike.{Like, stops, goes, like-sym, like-trans, holds-imp, Near, near-refl, NearLimits, Settled, settled-of, NearEnd, near-end-sym, near-end-trans, FiniteEnd}
 use Rattle.turns.proofs.Cone.{or-false, Covers, covers-all, covers-cone, cone-run, unmarked-unmet, same-marked, run-finite}
 use Rattle.runs.specs.declared.Run.the-variants.{Cone}
-use Rattle.runs.specs.Task.{Line, Task, width, every, lettersBelow, qubitsOf, isOne, channelFree, passes, question2, question3, question4, question5, question6}
+use Rattle.runs.specs.Task.{Line, Task, width, every, lettersBelow, qubitsOf, isOne, channelFree, passes, question2, question3, question4, question11, question5, question6}
 use Rattle.runs.specs.Outcome.{termsOf, startOf, folded, orFold, observed}
 use Rattle.runs.specs.LightCone.{Equal, Which, one, another, Way, asFull, asCone, pick, Passes}
 use Rattle.runs.specs.LightCone.{IsBinary64, RealsAreBinary64, Binary64Values, wordsOf, coneMarks, Agree}
@@ -170,9 +170,9 @@ withLines t ls = record { qubits = t .qubits; limits = t .limits; lines = ls; op
 facts : (t : Task) → Binary64Values t → passes Cone t ≡ true → Facts t
 unfolding termsOf
 facts t b h =
-    let p = and-true (question2 t && question3 Cone t) (question4 t && (question5 t && question6 t)) h in
+    let p = and-true (question2 t && question3 Cone t) (question4 t && (question11 t && (question5 t && question6 t))) h in
     let q = and-true (question2 t) (question3 Cone t) (p .0) in
-    let r = and-true (question5 t) (question6 t) (and-true (question4 t) (question5 t && question6 t) (p .1) .1) in
+    let r = and-true (question5 t) (question6 t) (and-true (question11 t) (question5 t && question6 t) (and-true (question4 t) (question11 t && (question5 t && question6 t)) (p .1) .1) .1) in
     go (t .lines) (one-line t (q .1)) (b .weights) (counts-say t (q .0) .1) (targets-within t (r .0))
   where
     go : (ls : List Line) → isOne ls ≡ true → All (λ l. IsBinary64 (l .weight)) ls → leb 1 (t .limits .limit) ≡ true

@@ -1,7 +1,7 @@
 -- Demand 3, sentence by sentence, over the values of a sheet and the runs of Outcome.antt; proofs/Demand.antt proves it.
 --   "However gates outside the inverse light cone are added, dropped or altered"   two tasks, whatever their unmarked ops (Demand3)
 --   "for every two channel-free sheets .., with one observable of weight 1"        question 3, put as `full` and as `cone` (Passes)
---   "that pass every question put before the run"                                  questions 2 to 6, both ways (Passes)
+--   "that pass every question put before the run"                                  questions 2 to 6 and 11, both ways (Passes)
 --   "agreeing in qubits, observable, .. and marked gates in order"                 Agree
 --   "the full and the cone run of each, four runs in all"                          Which, Way, endAs
 --   "end in the same refusal .. or all succeed with numerically equal means .."    SameEnd

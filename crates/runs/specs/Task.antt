@@ -7,9 +7,12 @@ use lib.ListN.{length}
 use lib.Ieee.{Float, eq}
 use Rattle.numbers.specs.Constants.{one64}
 use Rattle.numbers.specs.Tests.{isFinite, isEpsilon, inSine, inUnit}
+use Rattle.numbers.specs.Angle.{isAngle, isMix}
 use Rattle.words.specs.Keys.{Key, hasLetter, widthOf}
 use Rattle.turns.specs.declared.Limits.{Limits}
 use Rattle.turns.specs.declared.Op.{Op}
+use Rattle.turns.specs.declared.Op.the-variants.{Native, T, Tdg, Rz, P, Rzz}
+use Rattle.turns.specs.declared.Op.the-variants.{Pauli, Depol, Damp, Phase, Thermal, Depol2, Barrier}
 use Rattle.turns.specs.Ops.{Sort, gate, rotation, channel, barrier, shapeOf, targets}
 use Rattle.runs.specs.declared.Run.{Run}
 use Rattle.runs.specs.declared.Run.the-variants.{Full, Cone, All, Path}
@@ -83,6 +86,27 @@ unfoldable pub question4 : Task → Bool
 unfolding every
 question4 t = isEpsilon (t .limits .epsilon) && every (λ l. isFinite (l .weight)) (t .lines) && every realsFit (t .ops)
 
+-- 11. "The trade now takes a pair as a rotation only if ..", "Pauli rates .. must sum to at most 1": rz, p and rzz carry a pair, pauli a triple. t and tdg
+-- have their own sine and cosine, and the rates of thermal are no Pauli rates.
+abbrev pub pairHolds : Op → Bool
+pairHolds (Native g a b) = true
+pairHolds (T q) = true
+pairHolds (Tdg q) = true
+pairHolds (Rz q s c) = isAngle s c
+pairHolds (P q s c) = isAngle s c
+pairHolds (Rzz a b s c) = isAngle s c
+pairHolds (Pauli q x y z) = isMix x y z
+pairHolds (Depol q x) = true
+pairHolds (Damp q x) = true
+pairHolds (Phase q x) = true
+pairHolds (Thermal q x y z) = true
+pairHolds (Depol2 a b x) = true
+pairHolds Barrier = true
+
+unfoldable pub question11 : Task → Bool
+unfolding every
+question11 t = every pairHolds (t .ops)
+
 -- 5. "Is every qubit below qubits?"
 unfoldable pub question5 : Task → Bool
 unfolding every lettersBelow
@@ -102,4 +126,4 @@ question6 t = every (λ op. distinctTargets (targets op)) (t .ops)
 
 -- all that is asked of the values before a run
 abbrev pub passes : Run → Task → Bool
-passes r t = question2 t && question3 r t && (question4 t && (question5 t && question6 t))
+passes r t = question2 t && question3 r t && (question4 t && (question11 t && (question5 t && question6 t)))

@@ -5,6 +5,7 @@ use mathlib.Core.Path.{_≡_, refl}
 use mathlib.Core.List.{List, [], _∷_, _++_, map}
 use lib.Ieee.{neg, add, sub, mul, div, lt, le, eq, ofBits, toBits}
 use Rattle.numbers.specs.Root.{sqrtOf}
+use Rattle.numbers.specs.Angle.{cutOf}
 use Rattle.numbers.specs.Shown.{ruled, shownOf}
 use Rattle.words.specs.Keys.{bitOf, flipOf, bitAt, flipAt, allZero, sameKey}
 use Rattle.words.specs.Gates.{conjKey}
@@ -32,7 +33,7 @@ use Rattle.sheet.specs.Answer.{printedOf}
 
 -- opens the definitions that the cases compute
 unfoldable pub computed : Unit {0}
-unfolding neg add sub mul div lt le eq ofBits toBits sqrtOf ruled shownOf bitOf flipOf bitAt flipAt allZero sameKey conjKey foldl turnedOf sizeOf find isIn
+unfolding neg add sub mul div lt le eq ofBits toBits sqrtOf cutOf ruled shownOf bitOf flipOf bitAt flipAt allZero sameKey conjKey foldl turnedOf sizeOf find isIn
     addTo conjugated allFinite countY termOf share metBy partnerBy appendedRows rotated dampAction actionOf insert scaledLocal channeled keptOf tCount
     onWords act checked settle ended finish runs markedRun member touches coneOf markCone every lettersBelow termsOf foldLines allRuns onFirst parts
     index begins steps nextDigit decimal hexDigit nextHex hex16 decimalText hexText runField isFactor areFactors factorTexts isTerm factorOf lineOn

@@ -19,7 +19,7 @@ use Rattle.turns.specs.declared.Op.{Op}
 use Rattle.runs.specs.declared.Run.{Run}
 use Rattle.runs.specs.declared.Run.the-variants.{Full, Cone, All, Path}
 use Rattle.runs.specs.Task as values
-use Rattle.runs.specs.Task.{Line, Task, every, qubitsOf, isOne, passes}
+use Rattle.runs.specs.Task.{Line, Task, every, qubitsOf, isOne, pairHolds, passes}
 use Rattle.runs.specs.LightCone.{IsBinary64, RealsAreBinary64, Binary64Values}
 use Rattle.lines.specs.TermLines.{TermLine, lineOn, qubitsIn, allBelow, wordLine}
 use Rattle.lines.specs.OpLines.{opOn}
@@ -28,10 +28,10 @@ use Rattle.lines.proofs.WordLaws.{letters-of-word}
 use Rattle.layout.specs.declared.Head.{Head}
 use Rattle.layout.specs.Layout.{headOf, question1, termLines, opList}
 use Rattle.layout.proofs.LaidLaws.{term-lines-length, op-list-length}
-use Rattle.sheet.specs.declared.Asked.the-variants.{Two, Three, Four}
+use Rattle.sheet.specs.declared.Asked.the-variants.{Two, Three, Four, Eleven}
 use Rattle.sheet.specs.declared.Verdict.{Verdict}
 use Rattle.sheet.specs.declared.Verdict.the-variants.{RefusedAt, Passed}
-use Rattle.sheet.specs.Questions.{Question, question2, question3, question4, question5, question6, question7}
+use Rattle.sheet.specs.Questions.{Question, question2, question3, question4, question11, question5, question6, question7}
 use Rattle.sheet.specs.Questions.{countFits, weightFits, channelFits, placesFit, _orElse_, unless, firstOf, headLine, opsLine, firstNo, refusedOr, lineOf, faultOf, firstFault, opFault, roomVerdict, verdict}
 use Rattle.sheet.specs.Answer.{taskOf}
 
@@ -85,6 +85,7 @@ pub record Answers (h : Head) (ls : List (List ℕ)) (rows places : ℕ) : Type 
   pub two : lineOf Two h ls ≡ 0
   pub three : lineOf Three h ls ≡ 0
   pub four : lineOf Four h ls ≡ 0
+  pub eleven : lineOf Eleven h ls ≡ 0
   pub five : Yes (question5 h) (termLines h ls) (opList h ls)
   pub six : Yes question6 (termLines h ls) (opList h ls)
   pub room : question7 h rows places ≡ true
@@ -96,13 +97,15 @@ answers-of h ls rows places e =
     let b = refused-none 2 _ _ (a .1) in
     let c = refused-none 3 _ _ (b .1) in
     let d = refused-none 4 _ _ (c .1) in
-    let f = faults-none (question5 h .term) (question6 .term) 7 (termLines h ls) (firstFault (opFault h) (8 + h .terms) (opList h ls) (roomVerdict h rows places)) (d .1) in
+    let e′ = refused-none 11 _ _ (d .1) in
+    let f = faults-none (question5 h .term) (question6 .term) 7 (termLines h ls) (firstFault (opFault h) (8 + h .terms) (opList h ls) (roomVerdict h rows places)) (e′ .1) in
     let g = faults-none (question5 h .op) (question6 .op) (8 + h .terms) (opList h ls) (roomVerdict h rows places) (f .1 .1) in
     record {
       laid = a .0;
       two = b .0;
       three = c .0;
       four = d .0;
+      eleven = e′ .0;
       five = record { qubits = refl; epsilon = refl; limit = refl; terms = refl; term = f .0; ops = refl; op = g .0 };
       six = record { qubits = refl; epsilon = refl; limit = refl; terms = refl; term = f .1 .0; ops = refl; op = g .1 .0 };
       room = last-passed (question7 h rows places) (g .1 .1);
@@ -245,6 +248,10 @@ module _ (h : Head) (ls : List (List ℕ)) (rows places : ℕ) (a : Answers h ls
       ap₂ _&&_ (ap₂ _&&_ (y .epsilon) (every-map (wordLine width) (λ (l : TermLine). isFinite (l .weight)) (λ (l : Line). isFinite (l .weight)) (λ l e. e) (termLines h ls) (y .term)))
       (y .op)
 
+  eleven-true : values.question11 (taskOf h ls) ≡ true
+  unfolding values.question11
+  eleven-true = line-yes question11 (a .eleven) .op
+
   five-true : values.question5 (taskOf h ls) ≡ true
   unfolding values.question5
   five-true =
@@ -260,10 +267,14 @@ module _ (h : Head) (ls : List (List ℕ)) (rows places : ℕ) (a : Answers h ls
   six-true = a .six .op
 
   pub answers-pass : passes (h .run) (taskOf h ls) ≡ true
-  answers-pass = ap₂ _&&_ (ap₂ _&&_ two-true three-true) (ap₂ _&&_ four-true (ap₂ _&&_ five-true six-true))
+  answers-pass = ap₂ _&&_ (ap₂ _&&_ two-true three-true) (ap₂ _&&_ four-true (ap₂ _&&_ eleven-true (ap₂ _&&_ five-true six-true)))
 
 pub passed-passes : (h : Head) (ls : List (List ℕ)) (rows places : ℕ) → verdict h ls rows places ≡ Passed → passes (h .run) (taskOf h ls) ≡ true
 passed-passes h ls rows places e = answers-pass h ls rows places (answers-of h ls rows places e)
+
+-- "All that was promised of rotations is now read for these pairs and rates only": every op of a sheet that passed has such a pair, or none
+pub passed-pairs : (h : Head) (ls : List (List ℕ)) (rows places : ℕ) → verdict h ls rows places ≡ Passed → every pairHolds (opList h ls) ≡ true
+passed-pairs h ls rows places e = yes-of question11 (h .terms) (termLines h ls) (opList h ls) (answers-of h ls rows places e .eleven) .op
 
 -- ---- the reals of a sheet are binary64, whether it passes or not
 epsilon-is : (ls : List (List ℕ)) → IsBinary64 (headOf ls .epsilon)

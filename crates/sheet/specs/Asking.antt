@@ -7,7 +7,7 @@ use Rattle.turns.specs.declared.Op.{Op}
 use Rattle.turns.specs.OpList as T
 use Rattle.layout.specs.declared.Head.{Head}
 use Rattle.layout.specs.Layout.{question1, opList}
-use Rattle.sheet.specs.declared.Asked.the-variants.{Two, Three, Four}
+use Rattle.sheet.specs.declared.Asked.the-variants.{Two, Three, Four, Eleven}
 use Rattle.sheet.specs.declared.Verdict.{Verdict}
 use Rattle.sheet.specs.declared.Verdict.the-variants.{Passed}
 use Rattle.sheet.specs.Questions.{lineOf, refusedOr, byLine, roomVerdict}
@@ -34,4 +34,7 @@ abbrev pub earlyVerdict : Head → List (List ℕ) → Verdict
 earlyVerdict h ls = refusedOr 1 (question1 h ls) (refusedOr 2 (lineOf Two h ls) Passed)
 
 abbrev pub laterVerdict : Head → List (List ℕ) → ℕ → ℕ → Verdict
-laterVerdict h ls rows places = refusedOr 3 (lineOf Three h ls) (refusedOr 4 (lineOf Four h ls) (byLine h ls (roomVerdict h rows places)))
+laterVerdict h ls rows places =
+    refusedOr 3 (lineOf Three h ls)
+    (refusedOr 4 (lineOf Four h ls)
+    (refusedOr 11 (lineOf Eleven h ls) (byLine h ls (roomVerdict h rows places))))

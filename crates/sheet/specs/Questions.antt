@@ -1,5 +1,5 @@
--- "Questions before and during a run": 1 to 7. "Each is put to the whole sheet before the next, 1 to 7; the line returned is the first that
--- fails, counted from 1." 5 and 6 are put together, line by line (2026-01).
+-- "Questions before and during a run": 1 to 7 and 11. "Each is put to the whole sheet before the next, 1 to 7; the line returned is the first that
+-- fails, counted from 1." 11 is put after 4 (2026-06), and 5 and 6 together, line by line (2026-01).
 use Prim.Native.Nat.{ℕ, suc, _+_, _*_}
 use mathlib.Core.Bool.{Bool, true, cond, _&&_}
 use mathlib.Core.List.{List, [], _∷_}
@@ -11,12 +11,12 @@ use Rattle.turns.specs.declared.Op.{Op}
 use Rattle.turns.specs.Ops.{shapeOf, targets}
 use Rattle.runs.specs.declared.Run.{Run}
 use Rattle.runs.specs.declared.Run.the-variants.{Full, Cone, All, Path}
-use Rattle.runs.specs.Task.{notChannel, realsFit, distinctTargets}
+use Rattle.runs.specs.Task.{notChannel, realsFit, pairHolds, distinctTargets}
 use Rattle.layout.specs.declared.Head.{Head}
 use Rattle.lines.specs.TermLines.{TermLine, qubitsIn, allBelow, distinct}
 use Rattle.layout.specs.Layout.{question1, termLines, opList}
 use Rattle.sheet.specs.declared.Asked.{Asked}
-use Rattle.sheet.specs.declared.Asked.the-variants.{Two, Three, Four}
+use Rattle.sheet.specs.declared.Asked.the-variants.{Two, Three, Four, Eleven}
 use Rattle.sheet.specs.declared.Verdict.{Verdict}
 use Rattle.sheet.specs.declared.Verdict.the-variants.{RefusedAt, Passed}
 
@@ -87,6 +87,18 @@ question4 h = record {
   op = realsFit;
 }
 
+-- ---- 11. "a pair or rate triple breaking this, put after question 4" (2026-06)
+abbrev pub question11 : Question
+question11 = record {
+  qubits = true;
+  epsilon = true;
+  limit = true;
+  terms = true;
+  term = λ l. true;
+  ops = true;
+  op = pairHolds;
+}
+
 -- ---- 5 and 6 ask of the qubits in one term, and of the targets of one op
 abbrev pub ofQubits : (List ℕ → Bool) → (List ℕ → Bool) → Question
 ofQubits p r = record {
@@ -111,6 +123,7 @@ abbrev pub questionOf : Asked → Head → Question
 questionOf Two h = question2 h
 questionOf Three h = question3 h
 questionOf Four h = question4 h
+questionOf Eleven h = question11
 
 -- ---- 7. "Are there at least 2 × limit rows, and for `all` as many mean places as qubits?"
 abbrev pub placesFit : Run → ℕ → ℕ → Bool
@@ -188,4 +201,4 @@ byLine h ls v = firstFault (termFault h) 7 (termLines h ls) (firstFault (opFault
 
 unfoldable pub verdict : Head → List (List ℕ) → ℕ → ℕ → Verdict
 unfolding firstFault
-verdict h ls rows places = byQuestion h ls (byLine h ls (roomVerdict h rows places))
+verdict h ls rows places = byQuestion h ls (refusedOr 11 (lineOf Eleven h ls) (byLine h ls (roomVerdict h rows places)))

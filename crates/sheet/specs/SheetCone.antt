@@ -33,7 +33,7 @@ abbrev pub these : Which → List ℕ → List ℕ → List ℕ
 these one s u = s
 these another s u = u
 
--- "and the sheet passes both ways": questions 1 to 7, with so many rows and mean places lent
+-- "and the sheet passes both ways": questions 1 to 7 and 11, with so many rows and mean places lent
 abbrev pub PassesIn : List ℕ → ℕ → ℕ → Type 0
 PassesIn s rows places = let ls = parts newline s in verdict (headOf ls) ls rows places ≡ Passed
 

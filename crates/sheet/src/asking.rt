@@ -26,6 +26,7 @@ fn op_fits(asked: Asked, head: Head, op: Op) -> bool
         Asked::Two => true,
         Asked::Three => optests::channel_fits(run, op),
         Asked::Four => optests::reals_fit(op),
+        Asked::Eleven => optests::pair_holds(op),
     }
 }
 

@@ -1,4 +1,4 @@
-// What questions 2 to 4 ask of the lines `qubits` to `terms`, and of `ops`.
+// What questions 2 to 4 ask of the lines `qubits` to `terms`, and of `ops`; 11 asks nothing of them.
 ghost use mathlib.Core.Path.{_≡_};
 ghost use mathlib.Core.Bool.{_&&_};
 ghost use lib.Dec.{leb};
@@ -23,6 +23,7 @@ fn qubits_fit(asked: Asked, head: Head) -> bool
         Asked::Two => is_within(1, 256, qubits),
         Asked::Three => true,
         Asked::Four => true,
+        Asked::Eleven => true,
     }
 }
 
@@ -34,6 +35,7 @@ fn epsilon_fits(asked: Asked, head: Head) -> bool
         Asked::Two => true,
         Asked::Three => true,
         Asked::Four => is_epsilon(epsilon),
+        Asked::Eleven => true,
     }
 }
 
@@ -45,6 +47,7 @@ fn limit_fits(asked: Asked, head: Head) -> bool
         Asked::Two => is_within(1, 1048576, limit),
         Asked::Three => true,
         Asked::Four => true,
+        Asked::Eleven => true,
     }
 }
 
@@ -76,6 +79,7 @@ fn terms_fit(asked: Asked, head: Head) -> bool
         Asked::Two => are_few(terms, limit),
         Asked::Three => count_fits(run, terms),
         Asked::Four => true,
+        Asked::Eleven => true,
     }
 }
 
@@ -87,6 +91,7 @@ pub(crate) fn ops_fit(asked: Asked, head: Head) -> bool
         Asked::Two => ops <= 4096,
         Asked::Three => true,
         Asked::Four => true,
+        Asked::Eleven => true,
     }
 }
 

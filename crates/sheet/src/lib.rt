@@ -1,4 +1,4 @@
-// From the bytes of a sheet to its answer: questions 2 to 7, the run, the reply.
+// From the bytes of a sheet to its answer: questions 2 to 7 and 11, the run, the reply.
 
 // The questions that are put to the whole of a sheet's values, one before the next, by the numbers that refuse it. 5 and 6 are put together, line
 // by line (`faults`).
@@ -6,6 +6,7 @@ pub enum Asked {
     Two,
     Three,
     Four,
+    Eleven,
 }
 
 // The number of the first question that fails and the line, or none.

@@ -1,12 +1,13 @@
-// What questions 3 to 6 ask of one op.
+// What questions 3 to 6 and 11 ask of one op.
 ghost use mathlib.Core.Path.{_≡_};
 ghost use mathlib.Core.Bool.{_&&_};
 ghost use mathlib.Core.List.{[], _∷_};
 ghost use Rattle.turns.specs.Ops.{rotation, channel, shapeOf, targets};
 ghost use Rattle.turns.specs.Marks.{listOf};
-ghost use Rattle.runs.specs.Task.{every, notChannel, realFits, realsFit, distinctTargets};
+ghost use Rattle.runs.specs.Task.{every, notChannel, realFits, realsFit, pairHolds, distinctTargets};
 ghost use Rattle.lines.specs.TermLines.{allBelow};
 ghost use Rattle.sheet.specs.Questions.{channelFits};
+use numbers::pairs;
 use numbers::tests;
 use runs::Run;
 use turns::Op;
@@ -89,6 +90,27 @@ pub(crate) fn reals_fit(op: Op) -> bool
         Op::Phase(_, p) => rate_fits(p),
         Op::Thermal(_, x, y, z) => rates_fit(x, y, z),
         Op::Depol2(_, _, p) => rate_fits(p),
+        Op::Barrier => true,
+    }
+}
+
+// Question 11: the pair of a rotation is an angle, and the rates of pauli sum to at most 1.
+pub(crate) fn pair_holds(op: Op) -> bool
+    ensures { λ r. ⌜ r ≡ pairHolds op ⌝ }
+{
+    match op {
+        Op::Native(_, _, _) => true,
+        Op::T(_) => true,
+        Op::Tdg(_) => true,
+        Op::Rz(_, s, c) => pairs::is_angle(s, c),
+        Op::P(_, s, c) => pairs::is_angle(s, c),
+        Op::Rzz(_, _, s, c) => pairs::is_angle(s, c),
+        Op::Pauli(_, x, y, z) => pairs::is_mix(x, y, z),
+        Op::Depol(_, _) => true,
+        Op::Damp(_, _) => true,
+        Op::Phase(_, _) => true,
+        Op::Thermal(_, _, _, _) => true,
+        Op::Depol2(_, _, _) => true,
         Op::Barrier => true,
     }
 }

@@ -28,5 +28,6 @@ pub(crate) fn term_fits(asked: Asked, head: Head, l: &[u8]) -> bool
         Asked::Two => true,
         Asked::Three => weight_fits(run, weight_on(l)),
         Asked::Four => is_finite(weight_on(l)),
+        Asked::Eleven => true,
     }
 }

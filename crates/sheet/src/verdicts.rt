@@ -74,7 +74,7 @@ fn room_verdict(head: Head, rows: usize, places: usize) -> Verdict
     Verdict::RefusedAt(7, 0)
 }
 
-// Questions 3 to 7, for a sheet that passed 1 and 2; 5 and 6 line by line.
+// Questions 3 to 7, for a sheet that passed 1 and 2; 11 after 4, 5 and 6 line by line.
 pub(crate) fn later_verdict(
     s: &[u8],
     head: Head,
@@ -93,6 +93,10 @@ pub(crate) fn later_verdict(
     let d = first_line(Asked::Four, head, s, codes, reals);
     if d != 0 {
         return Verdict::RefusedAt(4, d);
+    }
+    let e = first_line(Asked::Eleven, head, s, codes, reals);
+    if e != 0 {
+        return Verdict::RefusedAt(11, e);
     }
     let room = room_verdict(head, rows, places);
     by_line(head, s, codes, reals, room)

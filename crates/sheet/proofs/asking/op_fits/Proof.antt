@@ -14,5 +14,8 @@ returns-2 c = by-asked-op _ _ (c .before .before .before .args .head) (c .before
 returns-3 : tie.Need-returns-3
 returns-3 c = by-asked-op _ _ (c .before .before .before .args .head) (c .before .before .before .args .op) _ (c .before .enum-told3 .given .1) (c .reals-fit .ensures)
 
+returns-4 : tie.Need-returns-4
+returns-4 c = by-asked-op _ _ (c .before .before .before .args .head) (c .before .before .before .args .op) _ (c .before .enum-told4 .given .1) (c .pair-holds .ensures)
+
 pub op-fits-spec : {M : Type 1} → statement M
-op-fits-spec = tie.close (tie.spec (λ c. search needs) (λ c. search needs) (λ c κs. search needs) (λ c. search needs) (λ c κs. search needs) returns returns-2 returns-3)
+op-fits-spec = tie.close (tie.spec (λ c. search needs) (λ c. search needs) (λ c κs. search needs) (λ c. search needs) (λ c κs. search needs) (λ c. search needs) (λ c κs. search needs) returns returns-2 returns-3 returns-4)

@@ -10,4 +10,4 @@ returns : tie.Need-returns
 returns c = by-asked (λ (q : Question). q .ops) _ _ _ _ (c .enum-told .given .1) refl
 
 pub ops-fit-spec : {M : Type 1} → statement M
-ops-fit-spec = tie.close (tie.spec (λ c. search needs) (λ c. search needs) (λ c. search needs) returns (λ c. search needs) (λ c. search needs))
+ops-fit-spec = tie.close (tie.spec (λ c. search needs) (λ c. search needs) (λ c. search needs) (λ c. search needs) returns (λ c. search needs) (λ c. search needs) (λ c. search needs))

@@ -9,4 +9,4 @@ returns : tie.Need-returns
 returns c = by-asked (λ (q : Question). q .qubits) _ _ _ _ (c .before .enum-told .given .1) (c .is-within .ensures)
 
 pub qubits-fit-spec : {M : Type 1} → statement M
-qubits-fit-spec = tie.close (tie.spec (λ c. search needs) (λ c κs. search needs) (λ c. search needs) (λ c. search needs) returns (λ c. search needs) (λ c. search needs))
+qubits-fit-spec = tie.close (tie.spec (λ c. search needs) (λ c κs. search needs) (λ c. search needs) (λ c. search needs) (λ c. search needs) returns (λ c. search needs) (λ c. search needs) (λ c. search needs))

@@ -12,4 +12,4 @@ returns-2 : tie.Need-returns-2
 returns-2 c = by-asked (λ (q : Question). q .terms) _ _ _ _ (c .before .enum-told2 .given .1) (c .count-fits .ensures)
 
 pub terms-fit-spec : {M : Type 1} → statement M
-terms-fit-spec = tie.close (tie.spec (λ c. search needs) (λ c κs. search needs) (λ c. search needs) (λ c κs. search needs) (λ c. search needs) returns returns-2 (λ c. search needs))
+terms-fit-spec = tie.close (tie.spec (λ c. search needs) (λ c κs. search needs) (λ c. search needs) (λ c κs. search needs) (λ c. search needs) (λ c. search needs) returns returns-2 (λ c. search needs) (λ c. search needs))

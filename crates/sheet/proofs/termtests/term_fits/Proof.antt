@@ -17,4 +17,4 @@ unfolding lineOn
 returns-3 c = by-asked-term _ _ (c .before .before .before .before .before .args .head) (lineOn (c .before .before .before .before .before .args .l .now)) _ (c .before .before .enum-told3 .given .1) (c .is-finite .ensures ∙ ap isFinite (c .before .weight-on2 .ensures))
 
 pub term-fits-spec : {M : Type 1} → statement M
-term-fits-spec = tie.close (tie.spec (λ c. search needs) (λ c. search needs) (λ c κs. search needs) (λ c κs. search needs) (λ c. search needs) (λ c κs. search needs) (λ c κs. search needs) (λ c. search needs) returns-2 returns-3)
+term-fits-spec = tie.close (tie.spec (λ c. search needs) (λ c. search needs) (λ c κs. search needs) (λ c κs. search needs) (λ c. search needs) (λ c κs. search needs) (λ c κs. search needs) (λ c. search needs) (λ c. search needs) returns-2 returns-3 (λ c. search needs))
