@@ -1,7 +1,7 @@
 #!/usr/bin/env python3
 """Answer a stream of sheets by a second reading of documents 01 and 02: reading.py < STREAM > ANSWERS
 
-It speaks the stream format of README.md and is made apart from the code and from the oracle: a term is a string of the letters X, Y, Z with a real
+It speaks the stream format of README.md and takes another way than the code and the oracle: a term is a string of the letters X, Y, Z with a real
 coefficient, the rules of the gates come from their matrices, `shown` and question 11 from fractions. So it shares with them no formula but those of the
 channels, whose order of operations document 01 takes from prism-q. Requests in force: 2026-01, 2026-03, 2026-06.
 """

@@ -125,16 +125,26 @@ turned-norm a b s c = go (leb (b * c) (a * s)) refl
         flipped : (x y z w : ℕ) → (y + x) * (w + z) ≡ (x + y) * (z + w)
         flipped x y z w = omega arith
 
--- a bound on the norm bounds the turn
-turned-most : (a b s c x : ℕ) → 2 ^ 49 * (square s + square c) ≤ (2 ^ 49 + 1) * x
-    → 2 ^ 49 * (square (a * c + b * s) + square (apart (a * s) (b * c))) ≤ (2 ^ 49 + 1) * (x * (square a + square b))
-turned-most a b s c x h =
-    let r = square a + square b in
-    let k : r * (2 ^ 49 * (square s + square c)) ≤ r * ((2 ^ 49 + 1) * x) = mul-le-mul (same r) h in
-    subst (λ (n : ℕ). 2 ^ 49 * n ≤ (2 ^ 49 + 1) * (x * r)) (sym (turned-norm a b s c)) (moved r (square s + square c) x k)
-  where
-    moved : (r n x : ℕ) → r * (2 ^ 49 * n) ≤ r * ((2 ^ 49 + 1) * x) → 2 ^ 49 * (r * n) ≤ (2 ^ 49 + 1) * (x * r)
-    moved r n x h = omega arith
+-- a bound on the norm bounds the turn, either way
+moved : (p q r n x : ℕ) → r * (p * n) ≤ r * (q * x) → p * (r * n) ≤ q * (x * r)
+moved p q r n x h = omega arith
+
+moved-back : (p q r n x : ℕ) → r * (q * x) ≤ r * (p * n) → q * (x * r) ≤ p * (r * n)
+moved-back p q r n x h = omega arith
+
+module _ (p q a b s c x : ℕ) where
+  abbrev after : ℕ
+  after = square (a * c + b * s) + square (apart (a * s) (b * c))
+
+  turned-most : p * (square s + square c) ≤ q * x → p * after ≤ q * (x * (square a + square b))
+  turned-most h =
+      let r = square a + square b in
+      subst (λ (n : ℕ). p * n ≤ q * (x * r)) (sym (turned-norm a b s c)) (moved p q r (square s + square c) x (mul-le-mul (same r) h))
+
+  turned-few : q * x ≤ p * (square s + square c) → q * (x * (square a + square b)) ≤ p * after
+  turned-few h =
+      let r = square a + square b in
+      subst (λ (n : ℕ). q * (x * r) ≤ p * n) (sym (turned-norm a b s c)) (moved-back p q r (square s + square c) x (mul-le-mul (same r) h))
 
 -- ---- of pairs
 clash : false ≡ true → ⊥
@@ -155,10 +165,15 @@ finite-norm s t m n e f h =
     let a = cut-floor s m e in
     let b = cut-floor t n f in
     let greatest = sum-most (m * up e) (down e) (n * up f) (down f) A B (a .0) (le-of-lt (a .1)) (b .0) (le-of-lt (b .1)) lo hi in
+    let least = sum-least (m * up e) (down e) (n * up f) (down f) A B (a .0) (le-of-lt (a .1)) (b .0) (le-of-lt (b .1)) lo hi in
+    let S = m * up e * down f in
+    let C = n * up f * down e in
+    let X = square (down e * down f) in
     record {
-      least = sum-least (m * up e) (down e) (n * up f) (down f) A B (a .0) (le-of-lt (a .1)) (b .0) (le-of-lt (b .1)) lo hi;
+      least = least;
       greatest = greatest;
-      turned = λ x y. turned-most x y (m * up e * down f) (n * up f * down e) (square (down e * down f)) greatest;
+      turned-least = λ x y. turned-few (2 ^ 50) (2 ^ 50 - 1) x y S C X least;
+      turned-greatest = λ x y. turned-most (2 ^ 49) (2 ^ 49 + 1) x y S C X greatest;
     }
 
 pub angles-keep-norm : AnglesKeepNorm

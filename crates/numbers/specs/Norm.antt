@@ -38,9 +38,13 @@ pub record KeepsNorm (s c : Float) : Type 0 where
   -- sine² + cosine², exactly
   pub least : (2 ^ 50 - 1) * square (unitIn s c) ≤ 2 ^ 50 * (square (sineIn s c) + square (cosineIn s c))
   pub greatest : 2 ^ 49 * (square (sineIn s c) + square (cosineIn s c)) ≤ (2 ^ 49 + 1) * square (unitIn s c)
-  -- "becomes c × cos + flip(partner)", before rounding, for partners whose coefficients have the sizes a and b: of the four products, two are added
-  -- and two subtracted, whatever the signs, since flip(c) = (im × sin, -(re × sin)) changes the sign of one. With b = 0: a term without partner.
-  pub turned : (a b : ℕ)
+  -- "becomes c × cos + flip(partner)", before rounding, for partners whose coefficients have the sizes a and b, one of whose new sizes is a sum of products
+  -- and the other a difference. Sizes alone are spoken of: which of the two is the sum depends on the signs, and a and b exchanged give the other case.
+  -- With b = 0: a term without partner.
+  pub turned-least : (a b : ℕ)
+      → (2 ^ 50 - 1) * (square (unitIn s c) * (square a + square b))
+      ≤ 2 ^ 50 * (square (a * cosineIn s c + b * sineIn s c) + square (apart (a * sineIn s c) (b * cosineIn s c)))
+  pub turned-greatest : (a b : ℕ)
       → 2 ^ 49 * (square (a * cosineIn s c + b * sineIn s c) + square (apart (a * sineIn s c) (b * cosineIn s c)))
       ≤ (2 ^ 49 + 1) * (square (unitIn s c) * (square a + square b))
 
