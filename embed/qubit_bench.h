@@ -56,7 +56,8 @@ extern "C" {
  *
  * returns    The smaller of the length of the text and out_len.
  *
- * The text starts with `status=N` and `line=L`. N is 0, or says why there is no answer; then all results in the text are 0. L is the first line of
+ * The text is lines, each ended by byte 10: `status=N`, `line=L`, `mean=`, `shown=`, `t_count=`, `peak_terms=`, `touched=`, `discarded=` and, for `run=all`,
+ * a line `z=` for each qubit. README.md says what each is. N is 0, or says why there is no answer; then all results in the text are 0. L is the first line of
  * the sheet at fault, counted from 1, or 0.
  *
  * 1  The sheet is not laid out as a sheet is: line L is wrong or missing, or something follows the last line.

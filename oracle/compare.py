@@ -69,6 +69,7 @@ def main():
     parser.add_argument("--chunk", type=int, default=2000, help="sheets handed over at a time")
     parser.add_argument("--show", type=int, default=1, help="differences printed")
     parser.add_argument("--prismq", action="store_true", help="compare only answers marked #by prism-q")
+    parser.add_argument("--without", metavar="KEY", help="a key whose lines are not compared")
     given = parser.parse_args()
     left, right = shlex.split(given.left), shlex.split(given.right)
     counts = collections.Counter()
@@ -79,6 +80,8 @@ def main():
     def take(chunk, first):
         for at, (one, two) in enumerate(zip(answers(left, chunk), answers(right, chunk))):
             marked = "#by prism-q" in one[1] + two[1]
+            if given.without:
+                one, two = (([line for line in lines if not line.startswith(given.without + "=")], rest) for lines, rest in (one, two))
             status = one[0][0] if one[0] else "no status"
             counts["sheets"] += 1
             if given.prismq and not marked:

@@ -3,7 +3,7 @@
 
 It speaks the stream format of README.md and takes another way than the code and the oracle: a term is a string of the letters X, Y, Z with a real
 coefficient, the rules of the gates come from their matrices, `shown` and question 11 from fractions. So it shares with them no formula but those of the
-channels, whose order of operations document 01 takes from prism-q. Requests in force: 2026-01, 2026-03, 2026-06.
+channels, whose order of operations document 01 takes from prism-q. Requests in force: 2026-01, 2026-02, 2026-03, 2026-06.
 """
 
 import fractions
@@ -279,6 +279,10 @@ class Sum:
     def words(self):
         return {word: at for at, (word, _) in enumerate(self.rows)}
 
+    def touched(self, targets):
+        """How many terms have a letter on at least one of the targets."""
+        return sum(any(q in targets for q, _ in word) for word, _ in self.rows)
+
     def gate(self, name, targets):
         table = GATES[name]
         for at, (word, c) in enumerate(self.rows):
@@ -379,7 +383,7 @@ def local_action(name, reals):
 
 class Tally:
     def __init__(self):
-        self.peak, self.discarded = 0, 0.0
+        self.peak, self.discarded, self.touched = 0, 0.0, 0
 
     def ask(self, total):
         """Question 8, of coefficients and sums."""
@@ -400,6 +404,7 @@ def one_run(s, total, marked, tally):
         name, targets, reals = s.ops[at]
         if not marked[at]:
             continue
+        tally.touched += total.touched(targets)
         if name in ROTATIONS:
             total.rotate(targets, *pair_of(name, reals))
         elif name in CHANNELS:
@@ -473,6 +478,7 @@ def sum_run(s):
         mean += weight * one_run(s, total, marked, tally)
         whole.discarded += abs(weight) * tally.discarded
         whole.peak = max(whole.peak, tally.peak)
+        whole.touched += tally.touched
     if not (math.isfinite(mean) and math.isfinite(whole.discarded)):
         raise Refused(8)
     return mean, whole, []
@@ -495,15 +501,17 @@ def shown(mean):
     return max(-999999999, min(999999999, number))
 
 
-def lines(status, line, mean=0.0, t_count=0, peak=0, discarded=0.0):
+def lines(status, line, mean=0.0, t_count=0, tally=None):
+    tally = tally or Tally()
     return [
         "status=%d" % status,
         "line=%d" % line,
         "mean=" + digits(mean),
         "shown=%d" % shown(mean),
         "t_count=%d" % t_count,
-        "peak_terms=%d" % peak,
-        "discarded=" + digits(discarded),
+        "peak_terms=%d" % tally.peak,
+        "touched=%d" % tally.touched,
+        "discarded=" + digits(tally.discarded),
     ]
 
 
@@ -528,13 +536,13 @@ def answer(text):
         t_count = 0 if s.run == "path" else sum(name in ROTATIONS for name, _, _ in s.ops)
         if s.run == "all":
             means, tally = all_run(s)
-            return lines(0, 0, 0.0, t_count, tally.peak, tally.discarded) + ["z=" + digits(mean) for mean in means]
+            return lines(0, 0, 0.0, t_count, tally) + ["z=" + digits(mean) for mean in means]
         mean, tally, rows = sum_run(s)
     except Refused as refusal:
         return lines(refusal.number, refusal.line)
     while rows and not rows[-1][0] and rows[-1][1] == 0.0:
         rows = rows[:-1]
-    return lines(0, 0, mean, t_count, tally.peak, tally.discarded) + [row_line(s.qubits, word, c) for word, c in rows]
+    return lines(0, 0, mean, t_count, tally) + [row_line(s.qubits, word, c) for word, c in rows]
 
 
 def main():

@@ -106,6 +106,14 @@ class-sought w s key =
     sym (sought-word w s (soughtBy w s key) k (subst (λ (n : ℕ). k < n) (sym (sought-length w s key)) h)) ∙ ap (λ (l : Key). getD l k 0) (sought-back w s key) in
     ap₂ min there back ∙ min-comm (soughtWord w s k (getD key k 0)) (getD key k 0))
 
+-- an x-word is the row's own
+pub sought-before : (w : ℕ) (s : Sought) (k v : ℕ) → k < w → v ≡ soughtWord w s k v
+unfolding soughtWord partnerWord
+sought-before w Same k v h = refl
+sought-before w (Partner (Z q)) k v h = flipped-before w q k v h
+sought-before w (Partner (Zz a b)) k v h = flipped-before w b k v h ∙ ap (flippedWord w b k) (flipped-before w a k v h)
+sought-before w (Identity q) k v h = flipped-before w q k v h
+
 -- the word with z cleared is in an index of identity branches
 pub identity-files : (w q : ℕ) (k : Key) → bitAt k (zAt w q) ≡ true → files w (Identity q) (flipAt k (zAt w q)) ≡ true
 identity-files w q k e = ap not (bitAt-cleared k (zAt w q) e)

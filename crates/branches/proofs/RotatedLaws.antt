@@ -16,16 +16,19 @@ use Rattle.terms.specs.declared.Axis.{Axis}
 use Rattle.terms.specs.Lists.{All}
 use Rattle.terms.specs.Term.{Term, noTerm, OnWidth, Distinct}
 use Rattle.terms.specs.Rotation.{metBy, partnerBy, onKey, scaledMet, rotated}
+use Rattle.terms.specs.Met.{axisTargets, inWords}
 use Rattle.terms.specs.Branch.{branchTo, branched}
 use Rattle.terms.proofs.CaseLaws.{lt-or-le, bool-cases}
 use Rattle.terms.proofs.ListLaws.{length-tab, getD-tab}
 use Rattle.terms.proofs.AllLaws.{all-of}
 use Rattle.terms.proofs.AxisLaws.{axis-branched}
-use Rattle.rows.specs.Rows.{keyAt, termAt, termsIn, rowsIn, Room, Holds, Grown}
+use Rattle.terms.proofs.LetterSteps.{bare-branched}
+use Rattle.rows.specs.Rows.{keyAt, termAt, termsIn, rowsIn, metIn, Room, Holds, Grown}
 use Rattle.branches.specs.Rotated.{Rotated}
 use Rattle.rows.proofs.RowLaws.{word-at, length-key}
 use Rattle.rows.proofs.HoldLaws.{hold-count, room-at, room-less}
 use Rattle.rows.proofs.StepLaws.{rows-room, grown, unstepped}
+use Rattle.rows.proofs.LetterRows.{untouched-bare, same-grown, once}
 
 -- ---- every row of a buffer of 64-bit words has a key of the width
 
@@ -80,3 +83,11 @@ module _ (w n : ℕ) (x : Axis) (sin cos : Float) (ws : List ℕ) (cs : List Flo
   -- no room
   pub unrotated : leb (2 * n) (rowsIn w ws cs) ≡ false → Rotated w n x sin cos n ws ws cs cs
   unrotated e = record { in-place = unstepped w (2 * n) _ n _ ws cs e; from-old = λ on distinct. unstepped w (2 * n) _ n _ ws cs e }
+
+  -- no term has a letter at a target
+  pub rotated-none : Words ws → metIn w (axisTargets x) n ws cs ≡ 0 → inWords w (axisTargets x) ≡ true → Rotated w n x sin cos n ws ws cs cs
+  rotated-none ok m f = go (leb (2 * n) (rowsIn w ws cs)) refl
+    where
+      go : (b : Bool) → leb (2 * n) (rowsIn w ws cs) ≡ b → Rotated w n x sin cos n ws ws cs cs
+      go true e = both ok e (same-grown w n _ ws cs (λ d. bare-branched w x sin cos ts (untouched-bare w n (axisTargets x) ws cs m f (once w n ws cs d))))
+      go false e = unrotated e

@@ -7,13 +7,17 @@ ghost use lib.ListN.{length};
 ghost use Rattle.words.specs.Keys.{flipAt, zAt, hasLetter};
 ghost use Rattle.terms.specs.Channel.{isZLetter, insert, branch, branchesTo, withBranches, scaledLetter, scaledLocal, scaledEither, channeled};
 ghost use Rattle.terms.specs.Term.{term};
+ghost use Rattle.terms.specs.Met.{actsOnTwo, kindTargets};
 ghost use Rattle.branches.specs.Letters.{letterOf};
 ghost use Rattle.branches.specs.declared.Sought.the-variants.{Identity};
 ghost use Rattle.branches.specs.Chains.{Indexed, Spare};
-ghost use Rattle.rows.specs.Rows.{keyAt, termAt, termsIn, putCoeff, Room, Holds, Grown};
+ghost use Rattle.rows.specs.Rows.{keyAt, termAt, termsIn, metIn, putCoeff, Room, Holds, Grown};
 use crate::Sought;
 use crate::chains;
 use crate::partners;
+use rows::Step;
+use rows::letters::has_targets;
+use rows::letters::met_rows;
 use rows::row;
 use terms::Axis;
 use terms::ChannelAction;
@@ -234,9 +238,8 @@ fn apply_local(
     m
 }
 
-// Takes each of the first n terms backward through a channel, at a and, for a channel on two targets, b. The answer is the number of
-// terms, where there are 2 * n rows; else nothing changes. What the memory of the index then holds is free.
-pub fn apply_backward_channel(
+// The first n terms through a channel, where there are 2 * n rows. The answer is the number of terms.
+fn channel_held(
     words: &mut [u64],
     coeffs: &mut [f64],
     index: &mut [u32],
@@ -270,4 +273,43 @@ pub fn apply_backward_channel(
             n
         }
     }
+}
+
+// Whether a channel has two targets.
+fn on_two(kind: ChannelKind) -> bool
+    ensures { λ r. ⌜ r ≡ actsOnTwo kind ⌝ }
+{
+    match kind {
+        ChannelKind::Local => false,
+        ChannelKind::Depolarizing2q => true,
+    }
+}
+
+// Takes each of the first n terms backward through a channel, at a and, for a channel on two targets, b. The answer is the number of
+// terms, where there are 2 * n rows, else nothing changes; and how many of the first n had a letter on at least one target. Where none had,
+// nothing changes and no row is touched. What the memory of the index then holds is free.
+pub fn apply_backward_channel(
+    words: &mut [u64],
+    coeffs: &mut [f64],
+    index: &mut [u32],
+    w: usize,
+    n: usize,
+    action: ChannelAction,
+    a: usize,
+    b: usize,
+) -> Step
+    ensures { λ r. ⌜ (r .met ≡ metIn w (kindTargets (action .kind) a b) n (now (words .entry)) (now (coeffs .entry)))
+        × Grown w n (channeled w a b action (termsIn (2 * w) n (now (words .entry)) (now (coeffs .entry)))) (r .count)
+        (now (words .entry)) (now (words .exit)) (now (coeffs .entry)) (now (coeffs .exit)) ⌝ }
+{
+    let kind = action.kind;
+    let two = on_two(kind);
+    let met = met_rows(words, coeffs, w, n, two, a, b);
+    if met == 0 {
+        if has_targets(w, two, a, b) {
+            return Step { count: n, met };
+        }
+    }
+    let count = channel_held(words, coeffs, index, w, n, action, a, b);
+    Step { count, met }
 }

@@ -99,10 +99,13 @@ fn partner_word(v: u64, k: usize, w: usize, axis: Axis) -> u64
     }
 }
 
-// Word k of the key looked for from a row whose word k is v.
+// Word k of the key looked for from a row whose word k is v. The x-words are the row's own.
 pub(crate) fn sought_word(v: u64, k: usize, w: usize, sought: Sought) -> u64
     ensures { λ r. ⌜ r ≡ soughtWord w sought k v ⌝ }
 {
+    if k < w {
+        return v;
+    }
     match sought {
         Sought::Same => v,
         Sought::Partner(axis) => partner_word(v, k, w, axis),

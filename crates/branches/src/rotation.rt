@@ -1,17 +1,20 @@
 // A Pauli rotation on every term: t, tdg, rz, p and rzz.
 ghost use mathlib.Core.Path.{_≡_};
-ghost use mathlib.Core.List.{map};
+ghost use mathlib.Core.List.{[], _∷_, map};
 ghost use Prim.Native.Nat.{_+_, _*_, _≤_, _<_};
 ghost use lib.ListN.{length};
 ghost use Rattle.terms.specs.Rotation.{metBy, partnerBy, scaledMet, mixed};
 ghost use Rattle.terms.specs.Branch.{branchLone, branchRow, branchTo};
 ghost use Rattle.terms.specs.declared.Axis.the-variants.{Z, Zz};
-ghost use Rattle.rows.specs.Rows.{coeffAt, termAt, termsIn, putCoeff, Room, Holds};
+ghost use Rattle.rows.specs.Rows.{coeffAt, termAt, termsIn, metIn, putCoeff, Room, Holds};
 ghost use Rattle.branches.specs.Pairs.{Tabled};
 ghost use Rattle.branches.specs.Rotated.{Rotated};
 use crate::pairs;
 use crate::partners;
 use crate::probe;
+use rows::Step;
+use rows::letters::has_targets;
+use rows::letters::met_rows;
 use rows::row;
 use terms::Axis;
 use terms::Found;
@@ -156,8 +159,9 @@ fn branch(
     branch_rows(words, coeffs, index, buckets, w, n, axis, sin, cos)
 }
 
-// A rotation about Z at one qubit: t, tdg, rz and p. The answer is the number of terms, where there are 2 * n rows; else nothing changes.
-// What the memory of the index then holds is free.
+// A rotation about Z at one qubit: t, tdg, rz and p. The answer is the number of terms, where there are 2 * n rows, else nothing changes; and how
+// many of the first n had a letter at the qubit. Where none had, nothing changes and no row is touched. What the memory of the index then holds
+// is free.
 pub fn branch_z_rotation(
     words: &mut [u64],
     coeffs: &mut [f64],
@@ -167,13 +171,21 @@ pub fn branch_z_rotation(
     qubit: usize,
     sin: f64,
     cos: f64,
-) -> usize
-    ensures { λ r. ⌜ Rotated w n (Z qubit) sin cos r (now (words .entry)) (now (words .exit)) (now (coeffs .entry)) (now (coeffs .exit)) ⌝ }
+) -> Step
+    ensures { λ r. ⌜ (r .met ≡ metIn w (qubit ∷ []) n (now (words .entry)) (now (coeffs .entry)))
+        × Rotated w n (Z qubit) sin cos (r .count) (now (words .entry)) (now (words .exit)) (now (coeffs .entry)) (now (coeffs .exit)) ⌝ }
 {
-    branch(words, coeffs, index, w, n, Axis::Z(qubit), sin, cos)
+    let met = met_rows(words, coeffs, w, n, false, qubit, 0);
+    if met == 0 {
+        if has_targets(w, false, qubit, 0) {
+            return Step { count: n, met };
+        }
+    }
+    let count = branch(words, coeffs, index, w, n, Axis::Z(qubit), sin, cos);
+    Step { count, met }
 }
 
-// A rotation about ZZ at two qubits: rzz. What the memory of the index then holds is free.
+// A rotation about ZZ at two qubits: rzz. The answer likewise. What the memory of the index then holds is free.
 pub fn branch_zz_rotation(
     words: &mut [u64],
     coeffs: &mut [f64],
@@ -184,8 +196,16 @@ pub fn branch_zz_rotation(
     b: usize,
     sin: f64,
     cos: f64,
-) -> usize
-    ensures { λ r. ⌜ Rotated w n (Zz a b) sin cos r (now (words .entry)) (now (words .exit)) (now (coeffs .entry)) (now (coeffs .exit)) ⌝ }
+) -> Step
+    ensures { λ r. ⌜ (r .met ≡ metIn w (a ∷ b ∷ []) n (now (words .entry)) (now (coeffs .entry)))
+        × Rotated w n (Zz a b) sin cos (r .count) (now (words .entry)) (now (words .exit)) (now (coeffs .entry)) (now (coeffs .exit)) ⌝ }
 {
-    branch(words, coeffs, index, w, n, Axis::Zz(a, b), sin, cos)
+    let met = met_rows(words, coeffs, w, n, true, a, b);
+    if met == 0 {
+        if has_targets(w, true, a, b) {
+            return Step { count: n, met };
+        }
+    }
+    let count = branch(words, coeffs, index, w, n, Axis::Zz(a, b), sin, cos);
+    Step { count, met }
 }

@@ -22,7 +22,7 @@ now s p = printedOf s 512 256 ≡ p
 
 -- "A sheet builder sent sine 1 with cosine 1"
 pub changed : before (sheet "term=3ff0000000000000:X0" "op=rz:0:3ff0000000000000,3ff0000000000000")
-    (text ("status=0" ∷ "line=0" ∷ "mean=3ff0000000000000" ∷ "shown=1000" ∷ "t_count=1" ∷ "peak_terms=2" ∷ "discarded=0000000000000000" ∷ []))
+    (text ("status=0" ∷ "line=0" ∷ "mean=3ff0000000000000" ∷ "shown=1000" ∷ "t_count=1" ∷ "peak_terms=2" ∷ "touched=3" ∷ "discarded=0000000000000000" ∷ []))
     × now (sheet "term=3ff0000000000000:X0" "op=rz:0:3ff0000000000000,3ff0000000000000") (printed (refusal 11 10) [])
 unfolding computed unasked printedBefore
 changed = (refl, refl)

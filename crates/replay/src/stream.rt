@@ -33,6 +33,7 @@ fn too_long() -> Reply {
         shown: 0,
         t_count: 0,
         peak_terms: 0,
+        touched: 0,
         discarded: 0.0,
         means: 0,
     }

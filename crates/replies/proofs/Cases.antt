@@ -17,13 +17,14 @@ caseA = record {
   shown = pos 707;
   «t_count» = 1;
   «peak_terms» = 2;
+  touched = 3;
   discarded = ofBits binary64 0;
   means = 0;
 }
 
 pub textA : printed caseA [] ≡
     bytes "status=0" ++ (newline ∷ (bytes "line=0" ++ (newline ∷ (bytes "mean=3fe6a09e667f3bcd" ++ (newline ∷ (bytes "shown=707" ++ (newline ∷
-    (bytes "t_count=1" ++ (newline ∷ (bytes "peak_terms=2" ++ (newline ∷ (bytes "discarded=0000000000000000" ++ (newline ∷ [])))))))))))))
+    (bytes "t_count=1" ++ (newline ∷ (bytes "peak_terms=2" ++ (newline ∷ (bytes "touched=3" ++ (newline ∷ (bytes "discarded=0000000000000000" ++ (newline ∷ [])))))))))))))))
 unfolding printed decimalText hexText zLines ofBits toBits eq
 textA = refl
 
@@ -36,14 +37,15 @@ withMeans = record {
   shown = negsuc 706;
   «t_count» = 0;
   «peak_terms» = 1;
+  touched = 0;
   discarded = ofBits binary64 0x3fe0_0000_0000_0000;
   means = 2;
 }
 
 pub textMeans : printed withMeans (ofBits binary64 0xbff0_0000_0000_0000 ∷ ofBits binary64 0x3fe0_0000_0000_0000 ∷ ofBits binary64 0 ∷ []) ≡
     bytes "status=0" ++ (newline ∷ (bytes "line=12" ++ (newline ∷ (bytes "mean=0000000000000000" ++ (newline ∷ (bytes "shown=-707" ++ (newline ∷
-    (bytes "t_count=0" ++ (newline ∷ (bytes "peak_terms=1" ++ (newline ∷ (bytes "discarded=3fe0000000000000" ++ (newline ∷
-    (bytes "z=bff0000000000000" ++ (newline ∷ (bytes "z=3fe0000000000000" ++ (newline ∷ [])))))))))))))))))
+    (bytes "t_count=0" ++ (newline ∷ (bytes "peak_terms=1" ++ (newline ∷ (bytes "touched=0" ++ (newline ∷ (bytes "discarded=3fe0000000000000" ++ (newline ∷
+    (bytes "z=bff0000000000000" ++ (newline ∷ (bytes "z=3fe0000000000000" ++ (newline ∷ [])))))))))))))))))))
 unfolding printed decimalText hexText zLines ofBits toBits eq
 textMeans = refl
 

@@ -19,7 +19,7 @@ module _ (reply : Reply) (places : List Float) where
       → Wrote b (field (bytes "mean=") (realText (reply .mean))) o₂ c o₃
       → Wrote c (field (bytes "shown=") (intText z)) o₃ d o₄
       → Wrote d (field (bytes "t_count=") (natText (reply .«t_count»)) ++ (field (bytes "peak_terms=") (natText (reply .«peak_terms»))
-      ++ (field (bytes "discarded=") (realText (reply .discarded)) ++ zLines (take (reply .means) places)))) o₄ e o₅
+      ++ (field (bytes "touched=") (natText (reply .touched)) ++ (field (bytes "discarded=") (realText (reply .discarded)) ++ zLines (take (reply .means) places))))) o₄ e o₅
       → Printing (printed reply places) e out o₅
   unfolding printed
   whole z s p q r t u = printing (join p (join q (join r (join (spelled (ap (λ (k : ℤ). field (bytes "shown=") (intText k)) s) t) u))))

@@ -27,7 +27,7 @@ unfoldable pub zLines : List Float → List ℕ
 zLines [] = []
 zLines (z ∷ zs) = field (bytes "z=") (realText z) ++ zLines zs
 
--- the text of a reply, whose Z means are the first of the mean places
+-- the text of a reply, whose Z means are the first of the mean places. "`touched`, .. printed after `peak_terms`"
 unfoldable pub printed : Reply → List Float → List ℕ
 unfolding decimalText hexText zLines
 printed r places =
@@ -37,4 +37,5 @@ printed r places =
     ++ (field (bytes "shown=") (intText (r .shown))
     ++ (field (bytes "t_count=") (natText (r .«t_count»))
     ++ (field (bytes "peak_terms=") (natText (r .«peak_terms»))
-    ++ (field (bytes "discarded=") (realText (r .discarded)) ++ zLines (take (r .means) places)))))))
+    ++ (field (bytes "touched=") (natText (r .touched))
+    ++ (field (bytes "discarded=") (realText (r .discarded)) ++ zLines (take (r .means) places))))))))

@@ -8,6 +8,7 @@ pub struct Reply {
     pub shown: i64,
     pub t_count: usize,
     pub peak_terms: usize,
+    pub touched: usize,
     pub discarded: f64,
     pub means: usize,
 }

@@ -26,9 +26,10 @@ pub fn printed(reply: Reply, means: &[f64], out: &mut [u8]) -> usize
     let d = write_signed_field(out, c, b"shown=", shown);
     let t_count = reply.t_count;
     let peak_terms = reply.peak_terms;
+    let touched = reply.touched;
     let discarded = reply.discarded;
     let n = reply.means;
-    write_rest(out, d, t_count, peak_terms, discarded, means, n)
+    write_rest(out, d, t_count, peak_terms, touched, discarded, means, n)
 }
 
 // The lines after the shown mean.
@@ -37,14 +38,16 @@ fn write_rest(
     at: usize,
     t_count: usize,
     peak_terms: usize,
+    touched: usize,
     discarded: f64,
     means: &[f64],
     n: usize,
 ) -> usize
-    ensures { λ r. ⌜ Wrote at (field (bytes "t_count=") (natText «t_count») ++ (field (bytes "peak_terms=") (natText «peak_terms») ++ (field (bytes "discarded=") (realText discarded) ++ zLines (take n (now (means .entry)))))) (now (out .entry)) r (now (out .exit)) ⌝ }
+    ensures { λ r. ⌜ Wrote at (field (bytes "t_count=") (natText «t_count») ++ (field (bytes "peak_terms=") (natText «peak_terms») ++ (field (bytes "touched=") (natText touched) ++ (field (bytes "discarded=") (realText discarded) ++ zLines (take n (now (means .entry))))))) (now (out .entry)) r (now (out .exit)) ⌝ }
 {
     let a = write_count(out, at, b"t_count=", t_count);
     let b = write_count(out, a, b"peak_terms=", peak_terms);
-    let c = write_real_field(out, b, b"discarded=", discarded);
-    write_means(out, c, means, n)
+    let c = write_count(out, b, b"touched=", touched);
+    let d = write_real_field(out, c, b"discarded=", discarded);
+    write_means(out, d, means, n)
 }

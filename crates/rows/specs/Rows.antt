@@ -13,6 +13,7 @@ use Rattle.terms.specs.declared.Complex64.{Complex64}
 use Rattle.terms.specs.Lists.{tab}
 use Rattle.terms.specs.Coefficient.{complex}
 use Rattle.terms.specs.Term.{Term, term}
+use Rattle.terms.specs.Met.{inWords, metTerms}
 
 -- ---- rows as terms
 
@@ -60,6 +61,11 @@ pub record Stepped (w need R n : ℕ) (ts : List Term) (r : ℕ) (ws ws′ : Lis
 -- n terms may become 2 * n: such a step needs that many rows, and reaches just the terms that it makes
 abbrev pub Grown : ℕ → ℕ → List Term → ℕ → List ℕ → List ℕ → List Float → List Float → Type 0
 Grown w n ts r ws ws′ cs cs′ = Stepped w (2 * n) (length ts) n ts r ws ws′ cs cs′
+
+-- "Each gate, rotation and channel step reports how many terms, before it acted, had a letter on at least one of its targets": of the first n rows,
+-- at the targets qs. Without the rows, or words for the targets, it meets none.
+abbrev pub metIn : ℕ → List ℕ → ℕ → List ℕ → List Float → ℕ
+metIn w qs n ws cs = cond (leb n (rowsIn w ws cs) && inWords w qs) (metTerms w qs (termsIn (2 * w) n ws cs)) 0
 
 -- ---- words of the private contracts
 

@@ -2,7 +2,7 @@
 use mathlib.Core.Path.{_≡_, refl, sym, ap, ap₂, _∙_, subst}
 use mathlib.Core.Bool.{Bool, true, false, cond, not, _&&_}
 use mathlib.Core.List.{List, [], _++_}
-use Prim.Native.Nat.{ℕ, zero, suc, _+_, _-_, _*_, _/_, _≤_, _<_, zero-le}
+use Prim.Native.Nat.{ℕ, zero, suc, _+_, _-_, _*_, _/_, _^_, _≤_, _<_, zero-le}
 use native.Mathlib.Nat.{le-refl}
 use native.Mathlib.Numerals.{add-one}
 use native.Mathlib.Omega.{arith}
@@ -30,14 +30,15 @@ use Rattle.turns.specs.declared.Ending.the-variants.{Done, Failed}
 use Rattle.turns.specs.declared.Start.the-variants.{Z}
 use Rattle.turns.specs.Turn.{Stage, refused, going, bind, ask, Outcome, outcome}
 use Rattle.turns.specs.Runs.{markAll, markedRun}
-use Rattle.turns.specs.Told.{endingOf, Followed}
+use Rattle.turns.specs.Told.{tally, endingOf, Followed}
 use Rattle.turns.specs.Given.{isGiven, isHeld, startedRun}
 use Rattle.turns.specs.Marks.{overlay}
 use Rattle.turns.proofs.RunLaws.{bind-same}
 use Rattle.runs.specs.Outcome.{nothingYet, addZ, allRuns, zState, zStep}
 use Rattle.runs.specs.Means.{allTask, fitsAll, roomAll, allHeld, allAsked, meansOf, AllRan, earlyAll, allTo, AllReady, Answers, allIn, AllTold}
-use Rattle.runs.specs.Means.{meanAdded, meansWith, Added, clearedMeans, AllLeaves}
+use Rattle.runs.specs.Means.{endTouched, meanAdded, meansWith, Added, clearedMeans, AllLeaves}
 use Rattle.runs.proofs.MarkRuns.{marked-overlay}
+use Rattle.runs.proofs.SumCounts.{ending-met, one-met, all-met}
 
 -- ---- what is asked before the first run
 
@@ -76,25 +77,41 @@ hold-less H = record { terms = refl; words-kept = H .words-kept; coeffs-kept = H
 
 -- a run's tally, as an outcome
 abbrev tallied : Tally → Outcome
-tallied t = outcome [] zero64 [] (t .peak) (t .discarded)
+tallied t = outcome [] zero64 [] (t .peak) (t .discarded) (t .touched)
 
 pub z-answers : (w : ℕ) (l : Limits) (marks : List Bool) (ops : List Op) (q : ℕ) (t : Tally) (keys : List ℕ) (weights : List Float) {r : Ending} {ws₀ ws : List ℕ} {cs₀ cs : List Float} {ix ix′ : List ℕ}
-    → 1 ≤ l .limit → w ≤ 4 → q < 64 * w → 2 * l .limit ≤ rowsIn w ws₀ cs₀
+    → 1 ≤ l .limit → w ≤ 4 → q < 64 * w → 2 * l .limit ≤ rowsIn w ws₀ cs₀ → l .limit ≤ 1048576
     → Followed w (isHeld w l keys weights (Z q t) (rowsIn w ws₀ cs₀)) (startedRun w l keys weights (Z q t) marks ops (rowsIn w ws₀ cs₀)) r ws₀ ws cs₀ cs ix ix′
     → Answers w r ws₀ ws cs₀ cs (markedRun w l marks ops (zState w q (tallied t)))
-z-answers w l marks ops q t keys weights {r} {ws₀} {ws} {cs₀} {cs} some narrow low room R =
+z-answers w l marks ops q t keys weights {r} {ws₀} {ws} {cs₀} {cs} some narrow low room top R =
     let run : Stage Outcome = markedRun w l marks ops (zState w q (tallied t)) in
     let g : isGiven w (l .limit) keys weights (Z q t) ≡ true =
-    λ k. le-leb 1 (l .limit) some k && (le-leb w 4 narrow k && lt-ltb q (64 * w) low k) in
+    λ k. le-leb (l .limit) 1048576 top k && (le-leb 1 (l .limit) some k && (le-leb w 4 narrow k && lt-ltb q (64 * w) low k)) in
     let h : leb (2 * l .limit) (rowsIn w ws₀ cs₀) ≡ true = le-leb (2 * l .limit) (rowsIn w ws₀ cs₀) room in
     let same : startedRun w l keys weights (Z q t) marks ops (rowsIn w ws₀ cs₀) ≡ run = λ k. ask 2 (g k) (ask 7 (h k) run) in
     record { answer = R .answer ∙ ap endingOf same; rows = hold-less (R .rows (λ k. g k && h k)) }
 
-pub added-failed : (q e : ℕ) (ms : List Float) (end : Ending) → end ≡ Failed e → Added q ms ms end (Failed e)
-added-failed q e ms end h = rw h (record { answer = refl; means = refl })
+pub added-failed : (q b e : ℕ) (ms : List Float) (end : Ending) → end ≡ Failed e → Added q b ms ms end (Failed e)
+added-failed q b e ms end h = rw h (record { answer = refl; means = refl })
 
-pub added-done : (q n : ℕ) (x : Float) (t : Tally) (ms : List Float) (end : Ending) → end ≡ Done x n t → Added q ms (set ms q x) end (Done zero64 0 t)
-added-done q n x t ms end h = rw h (record { answer = refl; means = refl })
+pub added-done : (q b n : ℕ) (x : Float) (t : Tally) (ms : List Float) (end : Ending) → end ≡ Done x n t → Added q b ms (set ms q x) end (Done zero64 0 (tally (t .peak) (t .discarded) (b + t .touched)))
+added-done q b n x t ms end h = rw h (record { answer = refl; means = refl })
+
+-- what this run's ops meet, after the runs before it, fits 64 bits
+pub z-slack : (w : ℕ) (l : Limits) (marks : List Bool) (ops : List Op) (q n : ℕ) (x : Float) (t : Tally) (at : Ending) {end : Ending} {ws₀ ws : List ℕ} {cs₀ cs m : List Float} → length ops ≤ 4096
+    → AllReady w (q + 1) l ws₀ cs₀ m → at ≡ Done x n t → endTouched at ≤ q * 4294967296 → Answers w end ws₀ ws cs₀ cs (markedRun w l marks ops (zState w q (tallied t)))
+    → t .touched + endTouched end < 2 ^ 64
+z-slack w l marks ops q n x t at short A e h B =
+    let one = ending-met 4294967296 (markedRun w l marks ops (zState w q (tallied t))) (B .answer) (one-met w l marks ops short (A .low) (zState w q (tallied t)) (A .some) refl) in
+    let was : t .touched ≤ q * 4294967296 = subst (λ (f : Ending). endTouched f ≤ q * 4294967296) e h in
+    let n₁ = A .narrow in
+    let n₂ = A .wide in
+    omega (arith, one, was, n₁, n₂)
+
+-- what the first qubits' runs met
+pub all-touched : (w : ℕ) (l : Limits) (marks : List Bool) (ops : List Op) {k q : ℕ} {at : Ending} {ws₀ ws : List ℕ} {cs₀ cs m₀ m : List Float} → length ops ≤ 4096 → AllReady w k l ws₀ cs₀ m₀
+    → AllTold w q at ws₀ ws cs₀ cs m₀ m (allTo w l marks ops q) → endTouched at ≤ q * 4294967296
+all-touched w l marks ops {q = q} short A P = ending-met (q * 4294967296) (allTo w l marks ops q) (P .answer) (all-met w l marks ops short (A .low) (A .some) q)
 
 -- ---- one qubit's turn
 
@@ -103,7 +120,7 @@ module _ (w : ℕ) (l : Limits) (marks : List Bool) (ops : List Op) (q : ℕ) (a
   step-failed e ws cs ms h = rw h (record { answer = refl; told = refl; rows = hold-none (2 * w) (rowsIn w ws cs) ws cs; kept = refl; long = refl })
 
   pub step-done : (n : ℕ) (x : Float) (t : Tally) {end r : Ending} {ws₀ ws : List ℕ} {cs₀ cs m₀ m : List Float} → at ≡ Done x n t → q < length m₀
-      → Answers w end ws₀ ws cs₀ cs (markedRun w l marks ops (zState w q (tallied t))) → Added q m₀ m end r
+      → Answers w end ws₀ ws cs₀ cs (markedRun w l marks ops (zState w q (tallied t))) → Added q (t .touched) m₀ m end r
       → AllTold w (q + 1) r ws₀ ws cs₀ cs m₀ m (bind (allIn q at m₀) (zStep w l marks ops q))
   step-done n x t {end} {r} {ws₀} {ws} {cs₀} {cs} {m₀} {m} h inside A D = rw h (record {
     answer = answer (markedRun w l marks ops (zState w q (tallied t))) (A .answer);
@@ -114,17 +131,17 @@ module _ (w : ℕ) (l : Limits) (marks : List Bool) (ops : List Op) (q : ℕ) (a
   })
     where
       before : Outcome
-      before = outcome [] zero64 (take q m₀) (t .peak) (t .discarded)
+      before = outcome [] zero64 (take q m₀) (t .peak) (t .discarded) (t .touched)
 
       answer : (run : Stage Outcome) → end ≡ endingOf run → r ≡ endingOf (bind run (λ o. going (addZ before o)))
-      answer (refused k) e = D .answer ∙ ap meanAdded e
-      answer (going o) e = D .answer ∙ ap meanAdded e
+      answer (refused k) e = D .answer ∙ ap (meanAdded (t .touched)) e
+      answer (going o) e = D .answer ∙ ap (meanAdded (t .touched)) e
 
       told : (run : Stage Outcome) → end ≡ endingOf run → allIn (q + 1) r m ≡ bind run (λ o. going (addZ before o))
-      told (refused k) e = ap (λ (z : Ending). allIn (q + 1) z m) (D .answer ∙ ap meanAdded e)
+      told (refused k) e = ap (λ (z : Ending). allIn (q + 1) z m) (D .answer ∙ ap (meanAdded (t .touched)) e)
       told (going o) e =
-          ap₂ (allIn (q + 1)) (D .answer ∙ ap meanAdded e) (D .means ∙ ap (λ (z : Ending). meansWith q z m₀) e)
-          ∙ ap (λ (k : List Float). going (outcome [] zero64 k (o .peak) (o .discarded)))
+          ap₂ (allIn (q + 1)) (D .answer ∙ ap (meanAdded (t .touched)) e) (D .means ∙ ap (λ (z : Ending). meansWith q z m₀) e)
+          ∙ ap (λ (k : List Float). going (outcome [] zero64 k (o .peak) (o .discarded) (t .touched + o .touched)))
           (ap (λ (k : ℕ). take k (set m₀ q (o .mean))) (add-one q) ∙ take-suc-set m₀ q (o .mean) inside)
 
       kept : (e : Ending) → m ≡ meansWith q e m₀ → drop (q + 1) m ≡ drop (q + 1) m₀
@@ -160,6 +177,7 @@ pub all-ready : {w k q : ℕ} {l : Limits} {at : Ending} {ws₀ ws : List ℕ} {
     → AllReady w (q + 1) l ws cs m
 all-ready {w} {k} {q} {l} A P h = record {
   some = A .some;
+  low = A .low;
   narrow = A .narrow;
   wide = let b = A .wide in omega arith;
   room = rw (held-rows w (P .rows)) (A .room);
@@ -230,11 +248,13 @@ module _ (qubits : ℕ) (l : Limits) (ops : List Op) (ws : List ℕ) (cs ms : Li
   pub all-given : number ≤ 0 → AllReady w qubits l ws cs ms
   all-given h =
       let z = zero-number (fitsAll qubits l) (roomAll qubits l rows (length ms)) asked h in
-      let f = and-true (leb 1 (l .limit)) (leb qubits 256) (z .0) in
+      let f = and-true (leb 1 (l .limit)) (leb (l .limit) 1048576 && leb qubits 256) (z .0) in
+      let g = and-true (leb (l .limit) 1048576) (leb qubits 256) (f .1) in
       let r = and-true (leb (2 * l .limit) rows) (leb qubits (length ms)) (z .1) in
-      let few = leb-true qubits 256 (f .1) in
+      let few = leb-true qubits 256 (g .1) in
       record {
         some = leb-true 1 (l .limit) (f .0);
+        low = leb-true (l .limit) 1048576 (g .0);
         narrow = omega arith;
         wide = omega arith;
         room = subst (λ (v : ℕ). 2 * l .limit ≤ rowsIn v ws cs) (sym ew) (leb-true (2 * l .limit) rows (r .0));

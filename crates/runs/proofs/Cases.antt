@@ -20,10 +20,11 @@ use Rattle.terms.specs.Start.{countY, termOf, share}
 use Rattle.terms.specs.Rotation.{metBy, partnerBy, appendedRows, rotated}
 use Rattle.terms.specs.Channel.{dampAction, actionOf, insert, scaledLocal, channeled}
 use Rattle.terms.specs.Truncation.{keptOf}
+use Rattle.terms.specs.Met.{letterAmong}
 use Rattle.turns.specs.declared.Limits.{Limits}
 use Rattle.turns.specs.declared.Op.{Op}
 use Rattle.turns.specs.declared.Op.the-variants.{Native, T, Rz, Damp}
-use Rattle.turns.specs.Ops.{tCount, onWords, act}
+use Rattle.turns.specs.Ops.{tCount, onWords, act, met}
 use Rattle.turns.specs.Turn.{Stage, refused, going, Outcome, outcome, checked, settle, ended, finish}
 use Rattle.turns.specs.Runs.{runs, markedRun, begin, markAll, member, touches, coneOf, markCone}
 use Rattle.runs.specs.declared.Run.{Run}
@@ -37,6 +38,7 @@ unfoldable computed : Unit {0}
 unfolding cutOf neg add sub mul lt le eq ofBits sqrtOf shownOf bitOf flipOf bitAt flipAt allZero sameKey conjKey foldl turnedOf sizeOf find isIn addTo
     conjugated allFinite countY termOf share metBy partnerBy appendedRows rotated dampAction actionOf insert scaledLocal channeled keptOf tCount onWords act
     checked settle ended finish runs markedRun member touches coneOf markCone every lettersBelow question2 question3 question4 question11 question5 question6 termsOf foldLines
+    letterAmong met
 computed = tt
 
 -- a real number by its bits
@@ -56,9 +58,9 @@ limits e m n = record { epsilon = e; «max_terms» = m; limit = n }
 abbrev task : ℕ → Limits → List Line → List Op → Task
 task n l ls ops = record { qubits = n; limits = l; lines = ls; ops = ops }
 
--- the terms, mean, peak and discarded weight of a run that succeeds
-abbrev ends : List Term → Float → ℕ → Float → Stage Outcome
-ends ts m p d = going (outcome ts m [] p d)
+-- the terms, mean, peak, discarded weight and touched of a run that succeeds
+abbrev ends : List Term → Float → ℕ → Float → ℕ → Stage Outcome
+ends ts m p d n = going (outcome ts m [] p d n)
 
 -- the task passes questions 2 to 6, and the run has the end
 pub record Case (r : Run) (t : Task) (end : Stage Outcome) : Type 0 where
@@ -77,7 +79,7 @@ ht = Native H 0 0 ∷ T 0 ∷ []
 
 -- the end of A: cos Z, and Y, which is the word XZ times i
 abbrev endA : Stage Outcome
-endA = ends (term (word 0 1) (complex cosineT zero64) ∷ term (word 1 1) (complex (neg zero64) sineT) ∷ []) (real 0x3fe6_a09e_667f_3bcd) 2 zero64
+endA = ends (term (word 0 1) (complex cosineT zero64) ∷ term (word 1 1) (complex (neg zero64) sineT) ∷ []) (real 0x3fe6_a09e_667f_3bcd) 2 zero64 3
 
 -- "Case A .. `mean=3fe6a09e667f3bcd`, `shown=707`, `t_count=1`, `peak_terms=2`, `discarded=0000000000000000`"
 pub case-a : Case Full (task 1 (usual 8) x0 ht) endA
@@ -102,13 +104,13 @@ unfolding computed
 case-b-two = record { passed = refl; ended = refl }
 
 -- "(C) max_terms 1, epsilon 3fe999999999999a: mean 0, peak 1, discarded 3ff6a09e667f3bcc"
-pub case-c : Case Full (task 1 (limits (real 0x3fe9_9999_9999_999a) 1 8) x0 ht) (ends [] zero64 1 (real 0x3ff6_a09e_667f_3bcc))
+pub case-c : Case Full (task 1 (limits (real 0x3fe9_9999_9999_999a) 1 8) x0 ht) (ends [] zero64 1 (real 0x3ff6_a09e_667f_3bcc) 1)
 unfolding computed
 case-c = record { passed = refl; ended = refl }
 
 -- "(D) t replaced by rz sine 1, cosine 0: peak 1, mean 0"
 pub case-d : Case Full (task 1 (usual 8) x0 (Native H 0 0 ∷ Rz 0 one64 zero64 ∷ []))
-    (ends (term (word 1 1) (complex (neg zero64) one64) ∷ []) zero64 1 zero64)
+    (ends (term (word 1 1) (complex (neg zero64) one64) ∷ []) zero64 1 zero64 2)
 unfolding computed
 case-d = record { passed = refl; ended = refl }
 
@@ -121,19 +123,19 @@ unfolding computed
 case-e = (refl, refl, refl, refl)
 
 -- "(F) no factors: mean 1"
-pub case-f : Case Full (task 1 (usual 8) (line (word 0 0) one64 ∷ []) ht) (ends (term (word 0 0) (complex one64 zero64) ∷ []) one64 1 zero64)
+pub case-f : Case Full (task 1 (usual 8) (line (word 0 0) one64 ∷ []) ht) (ends (term (word 0 0) (complex one64 zero64) ∷ []) one64 1 zero64 0)
 unfolding computed
 case-f = record { passed = refl; ended = refl }
 
 -- "(G) terms Z0 weights 1 and -1, no ops: peak 1, mean 0"
 pub case-g : Case Full (task 1 (usual 8) (line (word 0 1) one64 ∷ line (word 0 1) minusOne64 ∷ []) [])
-    (ends (term (word 0 1) (complex zero64 zero64) ∷ []) zero64 1 zero64)
+    (ends (term (word 0 1) (complex zero64 zero64) ∷ []) zero64 1 zero64 0)
 unfolding computed
 case-g = record { passed = refl; ended = refl }
 
 -- "(H) `path`, Z0, one damp 1.0: mean 1, peak 2"
 pub case-h : Case Path (task 1 (usual 8) (line (word 0 1) one64 ∷ []) (Damp 0 one64 ∷ []))
-    (ends (term (word 0 1) (complex zero64 zero64) ∷ term (word 0 0) (complex one64 zero64) ∷ []) one64 2 zero64)
+    (ends (term (word 0 1) (complex zero64 zero64) ∷ term (word 0 0) (complex one64 zero64) ∷ []) one64 2 zero64 1)
 unfolding computed
 case-h = record { passed = refl; ended = refl }
 
@@ -141,7 +143,7 @@ case-h = record { passed = refl; ended = refl }
 abbrev i : Task
 i = task 2 (usual 2) (line (word 1 0) one64 ∷ line (word 2 0) one64 ∷ []) (T 0 ∷ [])
 
-pub case-i : Case Full i (ends [] zero64 2 zero64)
+pub case-i : Case Full i (ends [] zero64 2 zero64 1)
 unfolding computed
 case-i = record { passed = refl; ended = refl }
 
@@ -153,7 +155,7 @@ case-i-sum = refl
 abbrev j : Task
 j = task 2 (usual 8) (line (word 0 1) one64 ∷ []) (Native H 1 0 ∷ [])
 
-pub case-j : Case Cone j (ends (term (word 0 1) (complex one64 zero64) ∷ []) one64 1 zero64)
+pub case-j : Case Cone j (ends (term (word 0 1) (complex one64 zero64) ∷ []) one64 1 zero64 0)
 unfolding computed
 case-j = record { passed = refl; ended = refl }
 

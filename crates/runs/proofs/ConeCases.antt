@@ -16,10 +16,11 @@ use Rattle.terms.specs.Term.{term, find, conjugated, allFinite}
 use Rattle.terms.specs.Start.{countY, termOf}
 use Rattle.terms.specs.Rotation.{metBy, partnerBy, appendedRows, rotated}
 use Rattle.terms.specs.Truncation.{keptOf}
+use Rattle.terms.specs.Met.{letterAmong}
 use Rattle.terms.specs.Lists.{none, more}
 use Rattle.turns.specs.declared.Op.{Op}
 use Rattle.turns.specs.declared.Op.the-variants.{Native, T, Rz, Barrier}
-use Rattle.turns.specs.Ops.{onWords, act}
+use Rattle.turns.specs.Ops.{onWords, act, met}
 use Rattle.turns.specs.Turn.{going, outcome, checked, settle, ended, finish}
 use Rattle.turns.specs.Runs.{runs, markedRun, member, touches, coneOf, markCone}
 use Rattle.turns.specs.MarkedOps.{SameOp, chosen}
@@ -86,7 +87,7 @@ pub example : Demand first second
 example = demand3 first second first-values second-values first-passes second-passes agree
 
 -- the first task's full run has mean 1 and peak 1, and so have the other three
-first-end : endAs asFull first ≡ going (outcome (term (0 ∷ 1 ∷ []) (complex one64 zero64) ∷ []) one64 [] 1 zero64)
-unfolding markedRun runs act onWords settle checked finish ended allFinite keptOf rotated appendedRows metBy partnerBy conjugated conjKey turnedOf
+first-end : endAs asFull first ≡ going (outcome (term (0 ∷ 1 ∷ []) (complex one64 zero64) ∷ []) one64 [] 1 zero64 3)
+unfolding markedRun runs act met letterAmong onWords settle checked finish ended allFinite keptOf rotated appendedRows metBy partnerBy conjugated conjKey turnedOf
     sizeOf foldl find sameKey allZero termsOf termOf countY bitAt bitOf flipAt flipOf add mul neg lt eq ofBits
 first-end = refl

@@ -1,43 +1,39 @@
 -- Demand 3, as specs/LightCone.antt states it. Assumes nothing.
-use mathlib.Core.Path.{_≡_, refl, sym, ap, ap₂, _∙_, subst}
-use Prim.Native.Nat.{ℕ, zero, suc, _*_, _%_, _≤_, _<_}
-use native.Mathlib.Nat.{le-refl, le-of-suc-le-suc, not-suc-le-zero}
+use mathlib.Core.Path.{_≡_, refl, sym, ap, subst}
+use Prim.Native.Nat.{ℕ, suc, _*_, _≤_, _<_}
 use native.Mathlib.Omega.{arith}
-use mathlib.Core.Bool.{Bool, true, false, _&&_, _||_, cond, false≢true}
-use mathlib.Core.Logic.{inl, inr}
+use mathlib.Core.Bool.{Bool, true, false, _&&_, cond, false≢true}
 use mathlib.Core.List.{List, [], _∷_, map}
 use lib.Dec.{eqb, ltb, leb}
-use borrow.Author.Tests.{ltb-true, leb-true, le-ltb, eqb-false}
-use lib.ListN.{length, drop, getD}
-use lib.Ieee.{binary64, neg, ofBits}
+use borrow.Author.Tests.{ltb-true, leb-true}
+use lib.ListN.{length, getD}
+use lib.Ieee.{binary64}
 use lib.Ieee.Bits.{ofBits-fits}
 use Rattle.numbers.specs.Close.{_≈_, same}
 use Rattle.numbers.specs.Constants.{zero64, one64}
 use Rattle.numbers.proofs.CloseLaws.{≈-of-eq, eq-of-≈}
-use Rattle.words.specs.Keys.{Key, hasLetter, widthOf}
-use Rattle.words.proofs.LetterLaws.{letter, no-letter}
+use Rattle.words.specs.Keys.{Key, widthOf}
 use Rattle.terms.specs.Lists.{All}
-use Rattle.terms.specs.Coefficient.{complex, turnedOf, finiteOf}
-use Rattle.terms.specs.Term.{Term, allFinite}
+use Rattle.terms.specs.Term.{Term}
 use Rattle.terms.specs.Start.{ysOf, termOf}
-use Rattle.terms.proofs.CaseLaws.{and-true, and-false, eq-or-ne}
-use Rattle.terms.proofs.AllLaws.{all-at, all-imp, all-and}
+use Rattle.terms.proofs.CaseLaws.{and-true, and-false}
 use Rattle.terms.proofs.NearLaws as L
 use Rattle.terms.specs.Lists.{Each, none, more}
-use Rattle.terms.proofs.NearLaws.{near-turned, at-key, near-finite}
-use Rattle.terms.proofs.LetterSteps.{Within, Clear, ClearAt}
+use Rattle.terms.proofs.NearLaws.{near-turned, at-key}
+use Rattle.terms.proofs.LetterSteps.{Within}
 use Rattle.turns.specs.declared.Limits.{Limits}
 use Rattle.turns.specs.declared.Op.{Op}
 use Rattle.turns.specs.declared.Op.the-variants.{Barrier}
 use Rattle.turns.specs.Ops.{targets}
 use Rattle.turns.specs.Turn.{Stage, refused, going, State, Outcome}
-use Rattle.turns.specs.Runs.{member, touches, coneOf, runs, begin, markAll, markCone, markedRun}
+use Rattle.turns.specs.Runs.{begin, markAll, markedRun}
 use Rattle.turns.specs.MarkedOps.{SameOp, chosen, Holds}
-use Rattle.turns.proofs.Alike.{Like, stops, goes, like-sym, like-trans, holds-imp, Near, near-refl, NearLimits, Settled, settled-of, NearEnd, near-end-sym, near-end-trans, FiniteEnd}
-use Rattle.turns.proofs.Cone.{or-false, Covers, covers-all, covers-cone, cone-run, unmarked-unmet, same-marked, run-finite}
+use Rattle.turns.proofs.Alike.{Like, stops, goes, like-sym, like-trans, Near, NearLimits, NearEnd, near-end-sym, near-end-trans, FiniteEnd}
+use Rattle.turns.proofs.Cone.{Covers, covers-all, covers-cone, same-marked}
+use Rattle.runs.proofs.Covered.{word-clear, start-clear, one-fits, Spread, covered-sum, sum-finite, skipped-meets}
 use Rattle.runs.specs.declared.Run.the-variants.{Cone}
 use Rattle.runs.specs.Task.{Line, Task, width, every, lettersBelow, qubitsOf, isOne, channelFree, passes, question2, question3, question4, question11, question5, question6}
-use Rattle.runs.specs.Outcome.{termsOf, startOf, folded, orFold, observed}
+use Rattle.runs.specs.Outcome.{termsOf, startOf, folded, orFold, sumRun, observed}
 use Rattle.runs.specs.LightCone.{Equal, Which, one, another, Way, asFull, asCone, pick, Passes}
 use Rattle.runs.specs.LightCone.{IsBinary64, RealsAreBinary64, Binary64Values, wordsOf, coneMarks, Agree}
 use Rattle.runs.specs.LightCone.{SameEnd, sameRefusal, bothSucceed, endAs, marksAs, reached, MeetsIdentities, Demand, Demand3}
@@ -60,63 +56,10 @@ all-chosen P [] (op ∷ ops) h = tt
 all-chosen P (true ∷ ms) (op ∷ ops) h = (h .0, all-chosen P ms ops (h .1))
 all-chosen P (false ∷ ms) (op ∷ ops) h = all-chosen P ms ops (h .1)
 
--- ---- the qubits of a word
-below-clear : (w n q : ℕ) (k : Key) → member q (lettersBelow w n k) ≡ false → q < n → hasLetter w k q ≡ false
-unfolding lettersBelow member
-below-clear w zero q k h b = absurd (not-suc-le-zero b)
-below-clear w (suc n) q k h b = go (hasLetter w k n) refl h (below-clear w n q k)
-  where
-    go : (t : Bool) → hasLetter w k n ≡ t → let r = lettersBelow w n k in
-        member q (cond t (n ∷ r) r) ≡ false → (member q r ≡ false → q < n → hasLetter w k q ≡ false) → hasLetter w k q ≡ false
-    go true e h f =
-        let p = or-false (eqb q n) (member q (lettersBelow w n k)) h in
-        let d = eqb-false q n (p .0) in
-        f (p .1) (omega arith)
-    go false e h f = elim (eq-or-ne q n) [
-      | inl p ↦ subst (λ (m : ℕ). hasLetter w k m ≡ false) (sym p) e
-      | inr p ↦ f h (omega arith)
-    ]
-
-word-clear : (w q : ℕ) (k : Key) → member q (qubitsOf w k) ≡ false → letter w k q ≡ false
-word-clear w q k h = go (ltb q (64 * w)) refl
-  where
-    go : (b : Bool) → ltb q (64 * w) ≡ b → (b && hasLetter w k q) ≡ false
-    go true e = below-clear w (64 * w) q k h (ltb-true q (64 * w) e)
-    go false e = refl
-
 -- ---- a line of weight 1, its term and its start
 near-line : (w : ℕ) (a : Line) → a .weight ≈ one64 → L.NearTerm (termOf w (a .key) (a .weight)) (termOf w (a .key) one64)
 unfolding termOf
 near-line w a e = at-key (a .key) (near-turned (ysOf w (a .key)) (record { re = e; im = same }))
-
-finite-one : (w : ℕ) (k : Key) → allFinite (termOf w k one64 ∷ []) ≡ true
-unfolding allFinite termOf turnedOf neg ofBits
-finite-one w k = let n = ysOf w k % 4 in go (eqb n 1) (eqb n 2) (eqb n 3)
-  where
-    go : (a b c : Bool)
-        → (finiteOf (cond a (complex (neg zero64) one64) (cond b (complex (neg one64) (neg zero64)) (cond c (complex zero64 (neg one64)) (complex one64 zero64)))) && true) ≡ true
-    go true b c = refl
-    go false true c = refl
-    go false false true = refl
-    go false false false = refl
-
-abbrev startLine : ℕ → Line → State
-startLine w a = begin (termOf w (a .key) (a .weight) ∷ [])
-
-start-settled : (w : ℕ) (l : Limits) (a : Line) → a .weight ≈ one64 → leb 1 (l .limit) ≡ true → Settled l (startLine w a)
-unfolding ofBits
-start-settled w l a e h = settled-of l (startLine w a) fine h (le-refl 1) (rw (not-crowded (l .«max_terms»)) (near-refl (startLine w a)))
-  where
-    fine : (allFinite (termOf w (a .key) (a .weight) ∷ []) && true) ≡ true
-    fine = rw (near-finite (more (near-line w a e) none), finite-one w (a .key))
-
-    not-crowded : (m : ℕ) → (ltb 0 m && ltb m 1) ≡ false
-    not-crowded zero = refl
-    not-crowded (suc m) = ap (λ (b : Bool). ltb 0 (suc m) && b) (le-ltb (suc m) 1 (omega arith)) ∙ and-false (ltb 0 (suc m))
-
-start-clear : (w : ℕ) (a : Line) (q : ℕ) → member q (qubitsOf w (a .key)) ≡ false → Clear w q (startLine w a .terms)
-unfolding termOf
-start-clear w a q h = (word-clear w q (a .key) h, tt)
 
 -- ---- what the questions before a run say of a task
 abbrev start : Task → State
@@ -126,8 +69,8 @@ abbrev ofWeightOne : ℕ → List Key → List Term
 ofWeightOne w ks = map (λ k. termOf w k one64) ks
 
 record Facts (t : Task) : Type 0 where
-  settled : Settled (t .limits) (start t)
-  clear : (q : ℕ) → member q (observed t) ≡ false → Clear (width t) q (start t .terms)
+  -- the one line's letters are the observable's qubits, and one term is within every limit
+  spread : Spread t (observed t)
   -- in any width
   of-weight-one : (w : ℕ) → L.Near (startOf w (t .lines)) (ofWeightOne w (wordsOf t))
   -- with one line there is no fold
@@ -182,8 +125,12 @@ facts t b h =
     go (a ∷ []) e f room v =
         let one : a .weight ≈ one64 = ≈-of-eq binary64 (a .weight) one64 (f .0) (ofBits-fits binary64 0x3ff0_0000_0000_0000) e in
         record {
-          settled = start-settled (width t) (t .limits) a one room;
-          clear = start-clear (width t) a;
+          spread = record {
+            clear = λ q h. (word-clear (width t) q (a .key) h, tt);
+            few = room;
+            some = room;
+            uncrowded = one-fits (t .limits .«max_terms») (termOf (width t) (a .key) (a .weight));
+          };
           of-weight-one = λ w. more (near-line w a one) none;
           no-fold = none-folded;
           within = v;
@@ -201,24 +148,22 @@ end-is : (v : Way) {t : Task} → Facts t → endAs v t ≡ endRun v t
 end-is asFull {t} f = f .no-fold (markAll (t .ops)) (endRun asFull t)
 end-is asCone {t} f = f .no-fold (coneMarks t) (endRun asCone t)
 
-covers : (v : Way) (qs : List ℕ) (ops : List Op) → Covers qs (marksAs v qs ops) ops
-covers asFull = covers-all
-covers asCone = covers-cone
-
 -- one task: each run ends like its cone run
-to-cone : {t : Task} → Facts t → (v : Way) → Like NearEnd (endRun v t) (endRun asCone t)
-to-cone {t} f v = cone-run (width t) (t .limits) (start t) (observed t) (f .settled) (f .clear) (marksAs v (observed t) (t .ops)) (t .ops) (covers v (observed t) (t .ops))
+to-cone : {t : Task} → Facts t → (v : Way) → Like NearEnd (endAs v t) (endAs asCone t)
+to-cone {t} f asFull = covered-sum t (observed t) (f .spread) (markAll (t .ops)) (covers-all (observed t) (t .ops))
+to-cone {t} f asCone = covered-sum t (observed t) (f .spread) (coneMarks t) (covers-cone (observed t) (t .ops))
 
 -- two tasks: their cone runs end alike
 near-ops : {os ps : List Op} → All RealsAreBinary64 os → All RealsAreBinary64 ps → Each (SameOp Equal) os ps → Each (SameOp _≈_) os ps
 near-ops = each-imp (SameOp Equal) (SameOp _≈_) RealsAreBinary64 RealsAreBinary64
     (λ o p h k e. record { name = e .name; targets = e .targets; reals = each-imp Equal _≈_ IsBinary64 IsBinary64 (λ x y. ≈-of-eq binary64 x y) h k (e .reals) })
 
-cross : {t u : Task} → Binary64Values t → Binary64Values u → Facts t → Facts u → Agree t u → Like NearEnd (endRun asCone t) (endRun asCone u)
+cross : {t u : Task} → Binary64Values t → Binary64Values u → Facts t → Facts u → Agree t u → Like NearEnd (endAs asCone t) (endAs asCone u)
 cross {t} {u} b c f g e =
-    subst (λ (n : ℕ). Like NearEnd (endRun asCone t) (markedRun (widthOf n) (u .limits) (coneMarks u) (u .ops) (begin (startOf (widthOf n) (u .lines))))) (e .qubits)
+    rw (end-is asCone f, end-is asCone g)
+    (subst (λ (n : ℕ). Like NearEnd (endRun asCone t) (markedRun (widthOf n) (u .limits) (coneMarks u) (u .ops) (begin (startOf (widthOf n) (u .lines))))) (e .qubits)
     (same-marked (width t) limits starts (coneMarks t) (coneMarks u) (t .ops) (u .ops)
-    (near-ops (all-chosen RealsAreBinary64 (coneMarks t) (t .ops) (b .reals)) (all-chosen RealsAreBinary64 (coneMarks u) (u .ops) (c .reals)) (e .marked)))
+    (near-ops (all-chosen RealsAreBinary64 (coneMarks t) (t .ops) (b .reals)) (all-chosen RealsAreBinary64 (coneMarks u) (u .ops) (c .reals)) (e .marked))))
   where
     limits : NearLimits (t .limits) (u .limits)
     limits = record {
@@ -232,44 +177,21 @@ cross {t} {u} b c f g e =
         (subst (λ (ks : List Key). L.Near (ofWeightOne (width t) ks) (startOf (width t) (u .lines))) (sym (e .observable)) (L.near-sym (g .of-weight-one (width t))))
 
     starts : Near (start t) (begin (startOf (width t) (u .lines)))
-    starts = record { terms = terms; peak = L.near-length terms; discarded = same }
+    starts = record { terms = terms; peak = L.near-length terms; discarded = same; touched = refl }
 
-same-end : {x y : Stage Outcome} → Like NearEnd x y → Holds FiniteEnd x → SameEnd x y
+pub same-end : {x y : Stage Outcome} → Like NearEnd x y → Holds FiniteEnd x → SameEnd x y
 same-end (stops n) h = sameRefusal n
-same-end (goes p) h = bothSucceed (eq-of-≈ (p .mean) (h .mean)) (eq-of-≈ (p .discarded) (h .discarded)) (p .peak)
+same-end (goes p) h = bothSucceed (eq-of-≈ (p .mean) (h .mean)) (eq-of-≈ (p .discarded) (h .discarded)) (p .peak) (p .touched)
 
 -- ---- turns
-marks-drop : (v : Way) (qs : List ℕ) (k : ℕ) (ops : List Op) → drop k (marksAs v qs ops) ≡ marksAs v qs (drop k ops)
-unfolding markCone
-marks-drop v qs zero ops = refl
-marks-drop asFull qs (suc k) [] = refl
-marks-drop asFull qs (suc k) (op ∷ ops) = marks-drop asFull qs k ops
-marks-drop asCone qs (suc k) [] = refl
-marks-drop asCone qs (suc k) (op ∷ ops) = marks-drop asCone qs k ops
-
-mark-at : (qs : List ℕ) (k : ℕ) (ops : List Op) → k < length ops → getD (markCone qs ops) k true ≡ touches (targets (getD ops k Barrier)) (coneOf qs (drop (suc k) ops))
-unfolding markCone
-mark-at qs k [] h = absurd (not-suc-le-zero h)
-mark-at qs zero (op ∷ ops) h = refl
-mark-at qs (suc k) (op ∷ ops) h = mark-at qs k ops (le-of-suc-le-suc h)
-
-no-letters : (w : ℕ) (qs : List ℕ) (ts : List Term) → Within w qs → ClearAt w qs ts → All (λ q. All (λ (u : Term). hasLetter w (u .key) q ≡ false) ts) qs
-no-letters w qs ts v h = all-imp (λ q. (q < 64 * w) × Clear w q ts) (λ q. All (λ (u : Term). hasLetter w (u .key) q ≡ false) ts) qs
-    (λ q p. all-imp (λ (u : Term). letter w (u .key) q ≡ false) (λ (u : Term). hasLetter w (u .key) q ≡ false) ts
-    (λ u e. let n = no-letter w (u .key) q (p .0) e in ap₂ _||_ (n .0) (n .1)) (p .1))
-    (all-and (λ q. q < 64 * w) (λ q. Clear w q ts) qs v h)
+covers : (v : Way) (t : Task) → Covers (observed t) (marksAs v (observed t) (t .ops)) (t .ops)
+covers asFull t = covers-all (observed t) (t .ops)
+covers asCone t = covers-cone (observed t) (t .ops)
 
 meets : {t : Task} → Facts t → (v : Way) (k : ℕ) → k < length (t .ops) → getD (coneMarks t) k true ≡ false
     → Holds (MeetsIdentities (width t) (getD (t .ops) k Barrier)) (reached v t (suc k))
-meets {t} f v k b h =
-    let w = width t in
-    let op = getD (t .ops) k Barrier in
-    let back = drop (suc k) (t .ops) in
-    let ms = marksAs v (observed t) back in
-    rw (marks-drop v (observed t) (suc k) (t .ops))
-    (holds-imp (λ s. ClearAt w (targets op) (s .terms)) (MeetsIdentities w op) (runs w (t .limits) ms back (start t))
-    (λ s. no-letters w (targets op) (s .terms) (all-at (λ o. Within w (targets o)) (t .ops) k Barrier b (f .within)))
-    (unmarked-unmet w (t .limits) (start t) (observed t) (f .settled) (f .clear) op ms back (covers v (observed t) back) (sym (mark-at (observed t) k (t .ops) b) ∙ h)))
+meets {t} f v k b h = skipped-meets (width t) (t .limits) (start t) (observed t) (λ q c. start-clear (width t) q (t .lines) (f .spread .clear q c))
+    (marksAs v (observed t) (t .ops)) (t .ops) (covers v t) (f .within) k b h
 
 -- ---- both conclusions
 module _ (t u : Task) (b : Binary64Values t) (c : Binary64Values u) (p : Passes t) (q : Passes u) (e : Agree t u) where
@@ -277,7 +199,7 @@ module _ (t u : Task) (b : Binary64Values t) (c : Binary64Values u) (p : Passes 
   fact one = facts t b (p asCone)
   fact another = facts u c (q asCone)
 
-  cones : (i j : Which) → Like NearEnd (endRun asCone (pick i t u)) (endRun asCone (pick j t u))
+  cones : (i j : Which) → Like NearEnd (endAs asCone (pick i t u)) (endAs asCone (pick j t u))
   cones one one = to-cone (fact one) asCone
   cones one another = cross b c (fact one) (fact another) e
   cones another one = like-sym near-end-sym (cross b c (fact one) (fact another) e)
@@ -285,13 +207,11 @@ module _ (t u : Task) (b : Binary64Values t) (c : Binary64Values u) (p : Passes 
 
   -- the four runs end alike up to the signs of zeros, their terms too
   pub near-ends : (i j : Which) (v w : Way) → Like NearEnd (endAs v (pick i t u)) (endAs w (pick j t u))
-  near-ends i j v w = rw (end-is v (fact i), end-is w (fact j))
-      (like-trans near-end-trans (to-cone (fact i) v) (like-trans near-end-trans (cones i j) (like-sym near-end-sym (to-cone (fact j) w))))
+  near-ends i j v w = like-trans near-end-trans (to-cone (fact i) v) (like-trans near-end-trans (cones i j) (like-sym near-end-sym (to-cone (fact j) w)))
 
   end-finite : (i : Which) (v : Way) → Holds FiniteEnd (endAs v (pick i t u))
-  end-finite i v =
-      let x = pick i t u in
-      rw (end-is v (fact i)) (run-finite (width x) (x .limits) (marksAs v (observed x) (x .ops)) (x .ops) (start x))
+  end-finite i asFull = let x = pick i t u in sum-finite x (markAll (x .ops))
+  end-finite i asCone = let x = pick i t u in sum-finite x (coneMarks x)
 
   both : Demand t u
   unfolding markedRun

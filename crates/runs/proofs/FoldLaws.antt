@@ -2,7 +2,7 @@
 use mathlib.Core.Path.{_≡_, refl, sym, ap, _∙_, subst, subst⁻¹}
 use mathlib.Core.Bool.{Bool, true, false, _&&_}
 use mathlib.Core.List.{List, [], _∷_, _++_}
-use Prim.Native.Nat.{ℕ, _+_, _*_, _/_, _≤_, _<_, max}
+use Prim.Native.Nat.{ℕ, _+_, _*_, _/_, _^_, _≤_, _<_, max}
 use native.Mathlib.Nat.{le-refl}
 use native.Mathlib.Numerals.{add-one}
 use native.Mathlib.Omega.{arith}
@@ -16,7 +16,7 @@ use Rattle.words.specs.Keys.{widthOf}
 use Rattle.terms.specs.Lists.{tab}
 use Rattle.terms.specs.Start.{termOf}
 use Rattle.terms.proofs.CaseLaws.{and-true}
-use Rattle.terms.proofs.ListLaws.{tab-snoc}
+use Rattle.terms.proofs.ListLaws.{tab-snoc, length-tab}
 use Rattle.rows.specs.Rows.{rowsIn, Holds}
 use Rattle.rows.specs.Cleared.{Cleared}
 use Rattle.rows.proofs.HoldLaws.{hold-start, hold-trans}
@@ -38,12 +38,14 @@ use Rattle.runs.specs.declared.fold.Folded.{Folded}
 use Rattle.runs.specs.declared.fold.Folded.the-variants.{Ended, Held}
 use Rattle.runs.specs.Task.{Line, Task}
 use Rattle.runs.specs.Outcome.{nothingYet, alone, addLine, addNext, foldLines, askTotals, folded}
-use Rattle.runs.specs.Table.{lineAt, taskIn, heldIn, added, FoldReady, Totals, Folds}
+use Rattle.runs.specs.Means.{endTouched}
+use Rattle.runs.specs.Table.{lineAt, taskIn, heldIn, heldTouched, added, FoldReady, Totals, Folds}
+use Rattle.runs.proofs.SumCounts.{ending-met, one-met, fold-met}
 
 -- ---- one line
 
 added-is : (m : Float) (t : Tally) (weight : Float) (s : Stage Outcome)
-    → heldIn (added m t weight (endingOf s)) ≡ bind s (λ o. going (addLine (outcome [] m [] (t .peak) (t .discarded)) weight o))
+    → heldIn (added m t weight (endingOf s)) ≡ bind s (λ o. going (addLine (outcome [] m [] (t .peak) (t .discarded) (t .touched)) weight o))
 added-is m t weight (refused n) = refl
 added-is m t weight (going o) = refl
 
@@ -52,32 +54,34 @@ module _ (m : Float) (t : Tally) (weight : Float) (end : Ending) where
   end-refused n e = sym (ap (added m t weight) e)
 
   pub end-added : (x : Float) (n : ℕ) (u : Tally) {p : ℕ} {a : Float} → end ≡ Done x n u → p ≡ max (t .peak) (u .peak) → a ≡ absOf weight
-      → Held (add binary64 m (mul binary64 weight x)) (tally p (add binary64 (t .discarded) (mul binary64 a (u .discarded)))) ≡ added m t weight end
+      → Held (add binary64 m (mul binary64 weight x)) (tally p (add binary64 (t .discarded) (mul binary64 a (u .discarded))) (t .touched + u .touched)) ≡ added m t weight end
   end-added x n u e p a =
-      (λ z. Held (add binary64 m (mul binary64 weight x)) (tally (p z) (add binary64 (t .discarded) (mul binary64 (a z) (u .discarded)))))
+      (λ z. Held (add binary64 m (mul binary64 weight x)) (tally (p z) (add binary64 (t .discarded) (mul binary64 (a z) (u .discarded))) (t .touched + u .touched)))
       ∙ sym (ap (added m t weight) e)
 
 -- a table has its lines
 lines-given : (w : ℕ) (l : Limits) (keys : List ℕ) (weights : List Float) (k : ℕ) → isGiven w (l .limit) keys weights (Lines k) ≡ true
-    → (k ≤ l .limit) × (k ≤ length keys / (2 * w)) × (k ≤ length weights)
+    → (k ≤ l .limit) × (k ≤ length keys / (2 * w)) × (k ≤ length weights) × (l .limit ≤ 1048576)
 lines-given w l keys weights k given =
-    let p = and-true (leb k (l .limit)) _ given in
+    let o = and-true (leb (l .limit) 1048576) _ given in
+    let p = and-true (leb k (l .limit)) _ (o .1) in
     let q = and-true (leb k (length keys / (2 * w))) _ (p .1) in
-    (leb-true _ _ (p .0), leb-true _ _ (q .0), leb-true _ _ (q .1))
+    (leb-true _ _ (p .0), leb-true _ _ (q .0), leb-true _ _ (q .1), leb-true _ _ (o .0))
 
 module _ (qubits : ℕ) (l : Limits) (keys : List ℕ) (weights : List Float) (k : ℕ) (ops : List Op) (ms : List Bool) (i : ℕ) (ws : List ℕ) (cs : List Float)
     (w : ℕ) (wide : w ≡ widthOf qubits) (inside : i < k) (ready : FoldReady w l keys weights k ws cs) where
   abbrev task : Task
   task = taskIn qubits l keys weights k ops
 
-  parts : (k ≤ l .limit) × (k ≤ length keys / (2 * w)) × (k ≤ length weights)
+  parts : (k ≤ l .limit) × (k ≤ length keys / (2 * w)) × (k ≤ length weights) × (l .limit ≤ 1048576)
   parts = lines-given w l keys weights k (ready .0)
 
   alone-given : isGiven w (l .limit) keys weights (Alone i) ≡ true
   alone-given =
       let a : leb 1 (l .limit) ≡ true = le-leb 1 (l .limit) (let h = parts .0 in omega (arith, h, inside)) in
       let b : ltb i (length keys / (2 * w)) ≡ true = lt-ltb i _ (let h = parts .1 in omega (arith, h, inside)) in
-      λ z. a z && b z
+      let o : leb (l .limit) 1048576 ≡ true = le-leb (l .limit) 1048576 (parts .3) in
+      λ z. o z && (a z && b z)
 
   room : leb (2 * l .limit) (rowsIn w ws cs) ≡ true
   room = le-leb _ _ (ready .1)
@@ -87,6 +91,20 @@ module _ (qubits : ℕ) (l : Limits) (keys : List ℕ) (weights : List Float) (k
     totals = ap heldIn e ∙ sym (ap (λ (a : Folded). bind (heldIn a) (addNext task ms (lineAt w keys weights i))) e);
     rows = emptied (hold-start (2 * w) (rowsIn w ws cs) 0 ws cs);
   }
+
+  -- what this line's ops meet, after the lines before it, fits 64 bits
+  pub line-slack : (at : Folded) (m : Float) (t : Tally) {end : Ending} {ws′ : List ℕ} {cs′ : List Float} {ix ix′ : List ℕ} → length ops ≤ 4096 → at ≡ Held m t → heldTouched at ≤ i * 4294967296
+      → Followed w (isHeld w l keys weights (Alone i) (rowsIn w ws cs)) (startedRun w l keys weights (Alone i) ms ops (rowsIn w ws cs)) end ws ws′ cs cs′ ix ix′
+      → t .touched + endTouched end < 2 ^ 64
+  line-slack at m t {end} short e h R =
+      let run : Stage Outcome = markedRun w l ms ops (startState w keys weights (Alone i)) in
+      let asked : startedRun w l keys weights (Alone i) ms ops (rowsIn w ws cs) ≡ run = λ z. ask 2 (alone-given z) (ask 7 (room z) run) in
+      let some : 1 ≤ l .limit = let a = parts .0 in omega (arith, a, inside) in
+      let one = ending-met 4294967296 run (R .answer ∙ ap endingOf asked) (one-met w l ms ops short (parts .3) (startState w keys weights (Alone i)) some refl) in
+      let was : t .touched ≤ i * 4294967296 = subst (λ (f : Folded). heldTouched f ≤ i * 4294967296) e h in
+      let k₁ = parts .0 in
+      let k₂ = parts .3 in
+      omega (arith, one, was, k₁, k₂, inside)
 
   pub line-added : (at : Folded) (m : Float) (t : Tally) {x : Float} {end : Ending} {r : Folded} {ws′ : List ℕ} {cs′ : List Float} {ix ix′ : List ℕ} → at ≡ Held m t
       → Followed w (isHeld w l keys weights (Alone i) (rowsIn w ws cs)) (startedRun w l keys weights (Alone i) ms ops (rowsIn w ws cs)) end ws ws′ cs cs′ ix ix′
@@ -99,7 +117,7 @@ module _ (qubits : ℕ) (l : Limits) (keys : List ℕ) (weights : List Float) (k
       let held : isHeld w l keys weights (Alone i) (rowsIn w ws cs) ≡ true = λ z. alone-given z && room z in
       record {
         totals = ap heldIn a ∙ ap (λ (y : Float). heldIn (added m t y end)) wt ∙ ap (λ (x : Ending). heldIn (added m t (getD weights i nan) x)) (R .answer ∙ ap endingOf asked) ∙ added-is m t (getD weights i nan) run
-            ∙ ap (λ (s : Stage Outcome). bind s (λ o. going (addLine (outcome [] m [] (t .peak) (t .discarded)) (getD weights i nan) o))) same
+            ∙ ap (λ (s : Stage Outcome). bind s (λ o. going (addLine (outcome [] m [] (t .peak) (t .discarded) (t .touched)) (getD weights i nan) o))) same
             ∙ sym (ap (λ (a : Folded). bind (heldIn a) (addNext task ms (lineAt w keys weights i))) e);
         rows = emptied (R .rows held);
       }
@@ -126,6 +144,16 @@ module _ (t : Task) (ms : List Bool) (f : ℕ → Line) where
     rows = hold-trans (T .rows) (subst (λ (R : ℕ). Holds (2 * w) R 0 [] ws ws′ cs cs′) (held-rows w (T .rows)) (U .rows));
   }
 
+-- what the first lines met
+pub lines-touched : (qubits : ℕ) (l : Limits) (keys : List ℕ) (weights : List Float) (k i w : ℕ) (ops : List Op) (ms : List Bool) {at : Folded} {ws₀ ws : List ℕ} {cs₀ cs : List Float} → length ops ≤ 4096
+    → i < k → FoldReady w l keys weights k ws₀ cs₀ → Totals w (foldLines (taskIn qubits l keys weights k ops) ms (tab i (lineAt w keys weights)) nothingYet) at ws₀ ws cs₀ cs
+    → heldTouched at ≤ i * 4294967296
+lines-touched qubits l keys weights k i w ops ms {at} short inside ready T =
+    let p = lines-given w l keys weights k (ready .0) in
+    let a = p .0 in
+    subst (λ (n : ℕ). heldTouched at ≤ n * 4294967296) (length-tab i (lineAt w keys weights))
+    (fold-met (taskIn qubits l keys weights k ops) ms short (p .3) (omega (arith, a, inside)) (tab i (lineAt w keys weights)) at (T .totals))
+
 -- the first lines of a table, and rows for twice limit, still
 pub ready-again : (w : ℕ) (l : Limits) (keys : List ℕ) (weights : List Float) (k j : ℕ) {s : Stage Outcome} {r : Folded} {ws₀ ws : List ℕ} {cs₀ cs : List Float}
     → j ≤ k → FoldReady w l keys weights k ws₀ cs₀ → Totals w s r ws₀ ws cs₀ cs → FoldReady w l keys weights j ws cs
@@ -134,7 +162,8 @@ ready-again w l keys weights k j h ready T =
     let a : leb j (l .limit) ≡ true = le-leb j (l .limit) (omega (arith, h, p .0)) in
     let b : leb j (length keys / (2 * w)) ≡ true = le-leb j _ (omega (arith, h, p .1)) in
     let d : leb j (length weights) ≡ true = le-leb j (length weights) (omega (arith, h, p .2)) in
-    (λ z. a z && (b z && d z), subst⁻¹ (λ (x : ℕ). 2 * l .limit ≤ x) (held-rows w (T .rows)) (ready .1))
+    let o : leb (l .limit) 1048576 ≡ true = le-leb (l .limit) 1048576 (p .3) in
+    (λ z. o z && (a z && (b z && d z)), subst⁻¹ (λ (x : ℕ). 2 * l .limit ≤ x) (held-rows w (T .rows)) (ready .1))
 
 -- ---- the end
 
@@ -142,10 +171,10 @@ pub ended-refused : (at : Folded) (n : ℕ) → at ≡ Ended n → Failed n ≡ 
 ended-refused at n e = sym (ap (λ (a : Folded). endingOf (bind (heldIn a) askTotals)) e)
 
 module _ (at : Folded) (m : Float) (t : Tally) (e : at ≡ Held m t) {a b : Bool} (p : a ≡ isFinite m) (q : b ≡ isFinite (t .discarded)) where
-  asked : (x y : Bool) → a ≡ x → b ≡ y → endingOf (bind (heldIn at) askTotals) ≡ endingOf (ask 8 (x && y) (going (outcome [] m [] (t .peak) (t .discarded))))
+  asked : (x y : Bool) → a ≡ x → b ≡ y → endingOf (bind (heldIn at) askTotals) ≡ endingOf (ask 8 (x && y) (going (outcome [] m [] (t .peak) (t .discarded) (t .touched))))
   asked x y f g =
       ap (λ (c : Folded). endingOf (bind (heldIn c) askTotals)) e
-      ∙ (λ z. endingOf (ask 8 ((sym p ∙ f) z && (sym q ∙ g) z) (going (outcome [] m [] (t .peak) (t .discarded)))))
+      ∙ (λ z. endingOf (ask 8 ((sym p ∙ f) z && (sym q ∙ g) z) (going (outcome [] m [] (t .peak) (t .discarded) (t .touched)))))
 
   pub ended-on : a ≡ true → b ≡ true → Done m 0 t ≡ endingOf (bind (heldIn at) askTotals)
   ended-on f g = sym (asked true true f g)
@@ -161,7 +190,7 @@ none-left : (at : Folded) → leftBy (bind (heldIn at) askTotals) ≡ []
 none-left (Ended n) = refl
 none-left (Held m t) = go (isFinite m && isFinite (t .discarded))
   where
-    go : (b : Bool) → leftBy (ask 8 b (going (outcome [] m [] (t .peak) (t .discarded)))) ≡ []
+    go : (b : Bool) → leftBy (ask 8 b (going (outcome [] m [] (t .peak) (t .discarded) (t .touched)))) ≡ []
     go true = refl
     go false = refl
 

@@ -1,5 +1,7 @@
 -- Laws of the runs.
+pub mod Covered
 pub mod Demand
+pub mod SumCounts
 pub mod ConeCases
 pub mod CoverLaws
 pub mod Cases

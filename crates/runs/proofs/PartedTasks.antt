@@ -82,7 +82,7 @@ z-wide w q = record {
 }
 
 -- for each qubit of `all`, whatever the tally so far
-pub qubit-halved : (t : Task) (ms : List Bool) (k q p : ℕ) (d : Float) → HalvedAt t ms k (state (termOf (width t) (zKey (width t) q) one64 ∷ []) p d)
+pub qubit-halved : (t : Task) (ms : List Bool) (k q p : ℕ) (d : Float) → HalvedAt t ms k (state (termOf (width t) (zKey (width t) q) one64 ∷ []) p d 0)
 qubit-halved t ms k q p d =
     let w = width t in
-    runs-halved w (t .limits) (drop k ms) (drop k (t .ops)) (state (termOf w (zKey w q) one64 ∷ []) p d) (term-halved w (zKey w q) one64 (z-wide w q))
+    runs-halved w (t .limits) (drop k ms) (drop k (t .ops)) (state (termOf w (zKey w q) one64 ∷ []) p d 0) (term-halved w (zKey w q) one64 (z-wide w q))

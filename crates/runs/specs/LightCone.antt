@@ -86,10 +86,11 @@ pub record Agree (t u : Task) : Type 0 where
   pub marked : Each (SameOp Equal) (markedOps t) (markedOps u)
 
 -- ---- "end in the same refusal, number and line, or all succeed with numerically equal means and discarded weights and equal peaks"
--- (the line of a refusal during a run is 0)
+-- (the line of a refusal during a run is 0); "Full and cone runs must agree in it too": `touched`
 pub data SameEnd : Stage Outcome → Stage Outcome → Type 0 where
   sameRefusal : (n : ℕ) → SameEnd (refused n) (refused n)
-  bothSucceed : {o p : Outcome} → Equal (o .mean) (p .mean) → Equal (o .discarded) (p .discarded) → o .peak ≡ p .peak → SameEnd (going o) (going p)
+  bothSucceed : {o p : Outcome} → Equal (o .mean) (p .mean) → Equal (o .discarded) (p .discarded) → o .peak ≡ p .peak
+      → o .touched ≡ p .touched → SameEnd (going o) (going p)
 
 abbrev pub endAs : Way → Task → Stage Outcome
 endAs v t = outcomeOf (runAs v) t

@@ -1,6 +1,6 @@
 -- The run of `all`: what is asked of it, and all that it leaves.
 use mathlib.Core.Path.{_≡_}
-use Prim.Native.Nat.{ℕ, zero, suc, _*_, _≤_}
+use Prim.Native.Nat.{ℕ, zero, suc, _+_, _*_, _≤_}
 use mathlib.Core.Bool.{Bool, cond, _&&_}
 use mathlib.Core.List.{List, [], _++_}
 use lib.Dec.{leb}
@@ -15,7 +15,7 @@ use Rattle.turns.specs.declared.Op.{Op}
 use Rattle.turns.specs.declared.Ending.{Ending}
 use Rattle.turns.specs.declared.Ending.the-variants.{Done, Failed}
 use Rattle.turns.specs.Turn.{Stage, refused, going, bind, ask, Outcome, outcome}
-use Rattle.turns.specs.Told.{endingOf}
+use Rattle.turns.specs.Told.{tally, endingOf}
 use Rattle.runs.specs.Task.{Task}
 use Rattle.runs.specs.Outcome.{nothingYet, zStep, allRuns}
 
@@ -23,9 +23,9 @@ use Rattle.runs.specs.Outcome.{nothingYet, zStep, allRuns}
 abbrev pub allTask : ℕ → Limits → List Op → Task
 allTask qubits l ops = record { qubits = qubits; limits = l; lines = []; ops = ops }
 
--- what the run itself needs of question 2: "Are qubits .. to 256, limit 1 ..?"
+-- what the run itself needs of question 2: "Are qubits .. to 256, limit 1 to 1,048,576 ..?"
 abbrev pub fitsAll : ℕ → Limits → Bool
-fitsAll qubits l = leb 1 (l .limit) && leb qubits 256
+fitsAll qubits l = leb 1 (l .limit) && (leb (l .limit) 1048576 && leb qubits 256)
 
 -- 7. "Are there at least 2 × limit rows, and for `all` as many mean places as qubits?"
 abbrev pub roomAll : ℕ → Limits → ℕ → ℕ → Bool
@@ -67,6 +67,7 @@ allTo w l marks ops (suc k) = bind (allTo w l marks ops k) (zStep w l marks ops 
 -- room for the runs of the first k qubits
 pub record AllReady (w k : ℕ) (l : Limits) (ws : List ℕ) (cs ms : List Float) : Type 0 where
   pub some : 1 ≤ l .limit
+  pub low : l .limit ≤ 1048576
   pub narrow : w ≤ 4
   pub wide : k ≤ 64 * w
   pub room : 2 * l .limit ≤ rowsIn w ws cs
@@ -80,7 +81,7 @@ pub record Answers (w : ℕ) (r : Ending) (ws₀ ws : List ℕ) (cs₀ cs : List
 -- the runs that an answer and the first q mean places tell of
 abbrev pub allIn : ℕ → Ending → List Float → Stage Outcome
 allIn q (Failed n) ms = refused n
-allIn q (Done m n t) ms = going (outcome [] zero64 (take q ms) (t .peak) (t .discarded))
+allIn q (Done m n t) ms = going (outcome [] zero64 (take q ms) (t .peak) (t .discarded) (t .touched))
 
 pub record AllTold (w q : ℕ) (r : Ending) (ws₀ ws : List ℕ) (cs₀ cs ms₀ ms : List Float) (run : Stage Outcome) : Type 0 where
   pub answer : r ≡ endingOf run
@@ -89,17 +90,22 @@ pub record AllTold (w q : ℕ) (r : Ending) (ws₀ ws : List ℕ) (cs₀ cs ms�
   pub kept : drop q ms ≡ drop q ms₀
   pub long : length ms ≡ length ms₀
 
--- a run's end among the means: a refusal adds none
-abbrev pub meanAdded : Ending → Ending
-meanAdded (Failed n) = Failed n
-meanAdded (Done m n t) = Done zero64 0 t
+-- how many terms the ops of a run met; none if it is refused
+abbrev pub endTouched : Ending → ℕ
+endTouched (Failed n) = 0
+endTouched (Done m n t) = t .touched
+
+-- a run's end among the means, after runs whose ops met b terms: a refusal adds none
+abbrev pub meanAdded : ℕ → Ending → Ending
+meanAdded b (Failed n) = Failed n
+meanAdded b (Done m n t) = Done zero64 0 (tally (t .peak) (t .discarded) (b + t .touched))
 
 abbrev pub meansWith : ℕ → Ending → List Float → List Float
 meansWith q (Failed n) ms = ms
 meansWith q (Done m n t) ms = set ms q m
 
-pub record Added (q : ℕ) (ms ms′ : List Float) (e r : Ending) : Type 0 where
-  pub answer : r ≡ meanAdded e
+pub record Added (q b : ℕ) (ms ms′ : List Float) (e r : Ending) : Type 0 where
+  pub answer : r ≡ meanAdded b e
   pub means : ms′ ≡ meansWith q e ms
 
 abbrev pub clearedMeans : ℕ → Ending → List Float → List Float

@@ -1,5 +1,5 @@
 -- The four runs of a task that the questions before a run passed.
-use Prim.Native.Nat.{ℕ, zero, suc, max}
+use Prim.Native.Nat.{ℕ, zero, suc, _+_, max}
 use mathlib.Core.Bool.{Bool, cond, _&&_}
 use mathlib.Core.List.{List, [], _∷_, _++_}
 use lib.Dec.{ltb, eqb}
@@ -29,18 +29,19 @@ startOf w ls = merged (termsOf w ls)
 
 -- the totals before the first line of a fold, and before the first qubit of `all`
 abbrev pub nothingYet : Outcome
-nothingYet = outcome [] zero64 [] 0 zero64
+nothingYet = outcome [] zero64 [] 0 zero64 0
 
 -- ---- "Fold: if a sum from two or more `term` lines meets 9, each line runs alone at weight 1, in order, its first refusal ending the run"
 abbrev pub alone : Task → List Bool → Line → Stage Outcome
 alone t ms l = markedRun (width t) (t .limits) ms (t .ops) (begin (termOf (width t) (l .key) one64 ∷ []))
 
--- "mean adds weight × mean, discarded adds |weight| × discarded, peak is the greatest"; "after .. a fold every row is zero"
+-- "mean adds weight × mean, discarded adds |weight| × discarded, peak is the greatest"; "In a fold it is summed over the lines"; "after .. a
+-- fold every row is zero"
 abbrev pub addLine : Outcome → Float → Outcome → Outcome
 addLine a weight o =
     let m = add binary64 (a .mean) (mul binary64 weight (o .mean)) in
     let d = add binary64 (a .discarded) (mul binary64 (absOf weight) (o .discarded)) in
-    outcome [] m [] (max (a .peak) (o .peak)) d
+    outcome [] m [] (max (a .peak) (o .peak)) d (a .touched + o .touched)
 
 -- the totals with the next line
 abbrev pub addNext : Task → List Bool → Line → Outcome → Stage Outcome
@@ -69,11 +70,11 @@ sumRun t ms = orFold t ms (markedRun (width t) (t .limits) ms (t .ops) (begin (s
 -- ---- "`all`: .. one Z mean per qubit"
 -- qubit q's start, with the tally so far: "`all` has one running discarded weight and the greatest peak", "the start count (0 in its place)"
 abbrev pub zState : ℕ → ℕ → Outcome → State
-zState w q a = state (termOf w (zKey w q) one64 ∷ []) (a .peak) (a .discarded)
+zState w q a = state (termOf w (zKey w q) one64 ∷ []) (a .peak) (a .discarded) 0
 
--- "For `all`, mean and shown are 0"; "after `all` .. every row is zero"
+-- "For `all`, mean and shown are 0"; "in `all` over the qubits"; "after `all` .. every row is zero"
 abbrev pub addZ : Outcome → Outcome → Outcome
-addZ a o = outcome [] zero64 (a .means ++ (o .mean ∷ [])) (o .peak) (o .discarded)
+addZ a o = outcome [] zero64 (a .means ++ (o .mean ∷ [])) (o .peak) (o .discarded) (a .touched + o .touched)
 
 -- qubit q's run, under marks
 abbrev pub zStep : ℕ → Limits → List Bool → List Op → ℕ → Outcome → Stage Outcome

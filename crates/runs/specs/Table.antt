@@ -1,6 +1,6 @@
 -- A task in lent memory: line l of the table has the 2 * W words from l * 2 * W on, and weight l. And what the answers of the fold stand for.
 use mathlib.Core.Path.{_≡_}
-use Prim.Native.Nat.{ℕ, _*_, _≤_, max}
+use Prim.Native.Nat.{ℕ, _+_, _*_, _≤_, max}
 use mathlib.Core.Bool.{Bool, true, false, _&&_}
 use mathlib.Core.List.{List, []}
 use lib.Dec.{leb, ltb, eqb}
@@ -54,13 +54,18 @@ pub record ConeRan (qubits : ℕ) (l : Limits) (keys : List ℕ) (weights : List
 -- the totals that an answer stands for
 abbrev pub heldIn : Folded → Stage Outcome
 heldIn (Ended n) = refused n
-heldIn (Held m t) = going (outcome [] m [] (t .peak) (t .discarded))
+heldIn (Held m t) = going (outcome [] m [] (t .peak) (t .discarded) (t .touched))
+
+-- how many terms the lines so far met
+abbrev pub heldTouched : Folded → ℕ
+heldTouched (Ended n) = 0
+heldTouched (Held m t) = t .touched
 
 -- the totals with one line's end
 abbrev pub added : Float → Tally → Float → Ending → Folded
 added m t weight (Failed n) = Ended n
 added m t weight (Done x n u) =
-    Held (add binary64 m (mul binary64 weight x)) (tally (max (t .peak) (u .peak)) (add binary64 (t .discarded) (mul binary64 (absOf weight) (u .discarded))))
+    Held (add binary64 m (mul binary64 weight x)) (tally (max (t .peak) (u .peak)) (add binary64 (t .discarded) (mul binary64 (absOf weight) (u .discarded))) (t .touched + u .touched))
 
 -- whether a sum of k lines is folded
 abbrev pub meetsNine : ℕ → Ending → Bool

@@ -2,7 +2,7 @@
 ghost use mathlib.Core.Path.{_≡_};
 ghost use mathlib.Core.Bool.{_&&_};
 ghost use mathlib.Core.List.{[]};
-ghost use Prim.Native.Nat.{_+_, _*_, _≤_, _<_};
+ghost use Prim.Native.Nat.{_+_, _*_, _^_, _≤_, _<_};
 ghost use lib.ListN.{length};
 ghost use Rattle.numbers.specs.Constants.{zero64};
 ghost use Rattle.words.specs.Keys.{widthOf};
@@ -13,7 +13,7 @@ ghost use Rattle.turns.specs.OpList.{opList};
 ghost use Rattle.turns.specs.Runs.{markedRun};
 ghost use Rattle.turns.specs.Told.{endingOf};
 ghost use Rattle.runs.specs.Outcome.{nothingYet, zState, zStep};
-ghost use Rattle.runs.specs.Means.{allHeld, allAsked, AllRan, earlyAll, allTo, AllReady, Answers, allIn, AllTold, Added, clearedMeans, AllLeaves};
+ghost use Rattle.runs.specs.Means.{allHeld, allAsked, AllRan, earlyAll, allTo, AllReady, Answers, allIn, AllTold, endTouched, Added, clearedMeans, AllLeaves};
 use crate::width;
 use rows::clear::clear_rows;
 use rows::row;
@@ -35,7 +35,7 @@ fn refusal(qubits: usize, limits: Limits, rows: usize, places: usize) -> u8
     ensures { λ r. ⌜ r ≡ earlyAll qubits limits rows places ⌝ }
 {
     let limit = limits.limit;
-    if !both(1 <= limit, qubits <= 256) {
+    if !both(1 <= limit, both(limit <= 1048576, qubits <= 256)) {
         return 2;
     }
     if !both(limit <= rows / 2, qubits <= places) {
@@ -58,9 +58,9 @@ fn run_z(
     q: usize,
     tally: Tally,
 ) -> Ending
-    requires { ⌜ (1 ≤ limits .limit) × (w ≤ 4) × (q < 64 * w) × (2 * limits .limit ≤ rowsIn w (now words) (now coeffs)) ⌝ }
+    requires { ⌜ (1 ≤ limits .limit) × (w ≤ 4) × (q < 64 * w) × (2 * limits .limit ≤ rowsIn w (now words) (now coeffs)) × (limits .limit ≤ 1048576) ⌝ }
     ensures { λ r. ⌜ Answers w r (now (words .entry)) (now (words .exit)) (now (coeffs .entry)) (now (coeffs .exit))
-        (markedRun w limits (now (marks .entry)) (opList n (now (codes .entry)) (now (reals .entry))) (zState w q (outcome [] zero64 [] (tally .peak) (tally .discarded)))) ⌝ }
+        (markedRun w limits (now (marks .entry)) (opList n (now (codes .entry)) (now (reals .entry))) (zState w q (outcome [] zero64 [] (tally .peak) (tally .discarded) (tally .touched)))) ⌝ }
 {
     let keys = [0u64; 1];
     let weights = [0.0; 1];
@@ -80,16 +80,24 @@ fn run_z(
     )
 }
 
-// What one qubit's run adds: its mean, or the refusal.
-fn add_mean(means: &mut [f64], q: usize, end: Ending) -> Ending
-    requires { ⌜ q < length (now means) ⌝ }
-    ensures { λ r. ⌜ Added q (now (means .entry)) (now (means .exit)) end r ⌝ }
+// What one qubit's run adds: its mean and what its ops met, or the refusal. `before` is what the ops of the runs before it met.
+fn add_mean(means: &mut [f64], q: usize, end: Ending, before: usize) -> Ending
+    requires { ⌜ (q < length (now means)) × (before + endTouched end < 2 ^ 64) ⌝ }
+    ensures { λ r. ⌜ Added q before (now (means .entry)) (now (means .exit)) end r ⌝ }
 {
     match end {
         Ending::Failed(e) => Ending::Failed(e),
         Ending::Done(mean, _, tally) => {
             means[q] = mean;
-            Ending::Done(0.0, 0, tally)
+            Ending::Done(
+                0.0,
+                0,
+                Tally {
+                    peak: tally.peak,
+                    discarded: tally.discarded,
+                    touched: before + tally.touched,
+                },
+            )
         }
     }
 }
@@ -109,7 +117,7 @@ fn all_step(
     q: usize,
     at: Ending,
 ) -> Ending
-    requires { ⌜ AllReady w (q + 1) limits (now words) (now coeffs) (now means) ⌝ }
+    requires { ⌜ AllReady w (q + 1) limits (now words) (now coeffs) (now means) × (endTouched at ≤ q * 4294967296) ⌝ }
     ensures { λ r. ⌜ AllTold w (q + 1) r (now (words .entry)) (now (words .exit)) (now (coeffs .entry)) (now (coeffs .exit)) (now (means .entry)) (now (means .exit))
         (bind (allIn q at (now (means .entry))) (zStep w limits (now (marks .entry)) (opList n (now (codes .entry)) (now (reals .entry))) q)) ⌝ }
 {
@@ -129,7 +137,7 @@ fn all_step(
                 q,
                 tally,
             );
-            add_mean(means, q, end)
+            add_mean(means, q, end, tally.touched)
         }
     }
 }
@@ -144,6 +152,7 @@ fn nothing_yet() -> Ending
         Tally {
             peak: 0,
             discarded: 0.0,
+            touched: 0,
         },
     )
 }
@@ -250,7 +259,7 @@ fn all_marked(
 }
 
 // One mean for each qubit, in the first mean places: qubit after qubit, the run of the first n ops from Z at that qubit alone, with one
-// running discarded weight and the greatest peak. A limit of 0 or more than 256 qubits is refused with 2, too few rows or mean places with
+// running discarded weight and the greatest peak. A limit of 0 or above 1,048,576, or more than 256 qubits, is refused with 2, too few rows or mean places with
 // 7; then nothing changes. Else every row and the index are zero at the end, and if 8 or 9 refuses a qubit's run, so is the mean of every
 // qubit.
 pub fn run_spd_lowered(

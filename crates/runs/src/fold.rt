@@ -1,6 +1,6 @@
 // The fold: each line of a sum alone at weight 1, and the totals.
 ghost use mathlib.Core.Path.{_≡_};
-ghost use Prim.Native.Nat.{_+_, _*_};
+ghost use Prim.Native.Nat.{_+_, _*_, _^_, _≤_, _<_};
 ghost use lib.ListN.{getD};
 ghost use lib.Ieee.{nan};
 ghost use Rattle.words.specs.Keys.{widthOf};
@@ -9,7 +9,8 @@ ghost use Rattle.turns.specs.Turn.{bind};
 ghost use Rattle.turns.specs.OpList.{opList};
 ghost use Rattle.turns.specs.Told.{endingOf};
 ghost use Rattle.runs.specs.Outcome.{nothingYet, addNext, foldLines, folded, askTotals};
-ghost use Rattle.runs.specs.Table.{lineAt, taskIn, heldIn, added, FoldReady, Totals, Folds};
+ghost use Rattle.runs.specs.Means.{endTouched};
+ghost use Rattle.runs.specs.Table.{lineAt, taskIn, heldIn, heldTouched, added, FoldReady, Totals, Folds};
 use rows::clear::clear_rows;
 use rows::row;
 use turns::Ending;
@@ -25,8 +26,10 @@ pub(crate) enum Folded {
     Held(f64, Tally),
 }
 
-// The totals with one line's end: its mean times the weight, its discarded weight times the weight's size, the greater peak.
+// The totals with one line's end: its mean times the weight, its discarded weight times the weight's size, the greater peak, and the terms
+// that its ops met.
 fn add_line(mean: f64, tally: Tally, weight: f64, end: Ending) -> Folded
+    requires { ⌜ tally .touched + endTouched end < 2 ^ 64 ⌝ }
     ensures { λ r. ⌜ r ≡ added mean tally weight end ⌝ }
 {
     match end {
@@ -36,6 +39,7 @@ fn add_line(mean: f64, tally: Tally, weight: f64, end: Ending) -> Folded
             Tally {
                 peak: larger(tally.peak, t.peak),
                 discarded: tally.discarded + numbers::tests::absolute(weight) * t.discarded,
+                touched: tally.touched + t.touched,
             },
         ),
     }
@@ -67,7 +71,7 @@ fn fold_line(
     coeffs: &mut [f64],
     index: &mut [u32],
 ) -> Folded
-    requires { ⌜ (w ≡ widthOf qubits) × FoldReady w limits (now keys) (now weights) (i + 1) (now words) (now coeffs) ⌝ }
+    requires { ⌜ (w ≡ widthOf qubits) × FoldReady w limits (now keys) (now weights) (i + 1) (now words) (now coeffs) × (heldTouched at ≤ i * 4294967296) ⌝ }
     ensures { λ r. ⌜ Totals w (bind (heldIn at) (addNext (taskIn qubits limits (now (keys .entry)) (now (weights .entry)) (i + 1) (opList n (now (codes .entry)) (now (reals .entry)))) (now (marks .entry)) (lineAt w (now (keys .entry)) (now (weights .entry)) i)))
         r (now (words .entry)) (now (words .exit)) (now (coeffs .entry)) (now (coeffs .exit)) ⌝ }
 {
@@ -116,6 +120,7 @@ fn fold_lines(
         Tally {
             peak: 0,
             discarded: 0.0,
+            touched: 0,
         },
     );
     let mut i = 0;

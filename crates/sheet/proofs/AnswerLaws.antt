@@ -140,7 +140,8 @@ module _ (h : Head) (ls : List (List ℕ)) (os : List Op) (ws : List ℕ) (cs ms
   pub runnable : Runnable h keys weights os ws cs ms
   runnable = record {
     pass = ap (passes (h .run)) same-task ∙ passed-passes h ls _ _ (clear .passed);
-    given = ap₂ _&&_ (and-true (leb (h .terms) 1024) (leb (h .terms) (h .limit)) (answers .terms) .1) (ap₂ _&&_ keys-fit weights-fit);
+    given = ap₂ _&&_ (and-true (leb 1 (h .limit)) (leb (h .limit) 1048576) (answers .limit) .1)
+        (ap₂ _&&_ (and-true (leb (h .terms) 1024) (leb (h .terms) (h .limit)) (answers .terms) .1) (ap₂ _&&_ keys-fit weights-fit));
     room = answers-of h ls _ _ (clear .passed) .room;
   }
     where

@@ -16,7 +16,8 @@ use Rattle.terms.specs.Start.{countY, termOf, share}
 use Rattle.terms.specs.Rotation.{metBy, partnerBy, appendedRows, rotated}
 use Rattle.terms.specs.Channel.{dampAction, actionOf, insert, scaledLocal, channeled}
 use Rattle.terms.specs.Truncation.{keptOf}
-use Rattle.turns.specs.Ops.{tCount, onWords, act}
+use Rattle.terms.specs.Met.{letterAmong}
+use Rattle.turns.specs.Ops.{tCount, onWords, act, met}
 use Rattle.turns.specs.Turn.{checked, settle, ended, finish}
 use Rattle.turns.specs.Runs.{runs, markedRun, member, touches, coneOf, markCone}
 use Rattle.runs.specs.Task.{every, lettersBelow}
@@ -35,7 +36,7 @@ use Rattle.sheet.specs.Answer.{printedOf}
 unfoldable pub computed : Unit {0}
 unfolding neg add sub mul div lt le eq ofBits toBits sqrtOf cutOf ruled shownOf bitOf flipOf bitAt flipAt allZero sameKey conjKey foldl turnedOf sizeOf find isIn
     addTo conjugated allFinite countY termOf share metBy partnerBy appendedRows rotated dampAction actionOf insert scaledLocal channeled keptOf tCount
-    onWords act checked settle ended finish runs markedRun member touches coneOf markCone every lettersBelow termsOf foldLines allRuns onFirst parts
+    onWords act met letterAmong checked settle ended finish runs markedRun member touches coneOf markCone every lettersBelow termsOf foldLines allRuns onFirst parts
     index begins steps nextDigit decimal hexDigit nextHex hex16 decimalText hexText runField isFactor areFactors factorTexts isTerm factorOf lineOn
     placed nameOf targetsIn realsIn opAfter op headKind laterKind kind isLaidOut badLine headOf zLines printed distinct firstOf firstFault verdict printedOf
 computed = tt
@@ -58,73 +59,73 @@ cases =
     row
     ("qubits=1" ∷ "run=full" ∷ "epsilon=0000000000000000" ∷ "max_terms=0" ∷ "limit=8" ∷ "terms=1" ∷ "term=3ff0000000000000:X0" ∷
     "ops=2" ∷ "op=h:0" ∷ "op=t:0" ∷ [])
-    ("status=0" ∷ "line=0" ∷ "mean=3fe6a09e667f3bcd" ∷ "shown=707" ∷ "t_count=1" ∷ "peak_terms=2" ∷ "discarded=0000000000000000" ∷ [])
+    ("status=0" ∷ "line=0" ∷ "mean=3fe6a09e667f3bcd" ∷ "shown=707" ∷ "t_count=1" ∷ "peak_terms=2" ∷ "touched=3" ∷ "discarded=0000000000000000" ∷ [])
     ∷
     -- (B: limit 1)
     row
     ("qubits=1" ∷ "run=full" ∷ "epsilon=0000000000000000" ∷ "max_terms=0" ∷ "limit=1" ∷ "terms=1" ∷ "term=3ff0000000000000:X0" ∷
     "ops=2" ∷ "op=h:0" ∷ "op=t:0" ∷ [])
-    ("status=9" ∷ "line=0" ∷ "mean=0000000000000000" ∷ "shown=0" ∷ "t_count=0" ∷ "peak_terms=0" ∷ "discarded=0000000000000000" ∷ [])
+    ("status=9" ∷ "line=0" ∷ "mean=0000000000000000" ∷ "shown=0" ∷ "t_count=0" ∷ "peak_terms=0" ∷ "touched=0" ∷ "discarded=0000000000000000" ∷ [])
     ∷
     -- (B: limit 2)
     row
     ("qubits=1" ∷ "run=full" ∷ "epsilon=0000000000000000" ∷ "max_terms=0" ∷ "limit=2" ∷ "terms=1" ∷ "term=3ff0000000000000:X0" ∷
     "ops=2" ∷ "op=h:0" ∷ "op=t:0" ∷ [])
-    ("status=0" ∷ "line=0" ∷ "mean=3fe6a09e667f3bcd" ∷ "shown=707" ∷ "t_count=1" ∷ "peak_terms=2" ∷ "discarded=0000000000000000" ∷ [])
+    ("status=0" ∷ "line=0" ∷ "mean=3fe6a09e667f3bcd" ∷ "shown=707" ∷ "t_count=1" ∷ "peak_terms=2" ∷ "touched=3" ∷ "discarded=0000000000000000" ∷ [])
     ∷
     -- (C: max_terms 1, epsilon 0.8)
     row
     ("qubits=1" ∷ "run=full" ∷ "epsilon=3fe999999999999a" ∷ "max_terms=1" ∷ "limit=8" ∷ "terms=1" ∷ "term=3ff0000000000000:X0" ∷
     "ops=2" ∷ "op=h:0" ∷ "op=t:0" ∷ [])
-    ("status=0" ∷ "line=0" ∷ "mean=0000000000000000" ∷ "shown=0" ∷ "t_count=1" ∷ "peak_terms=1" ∷ "discarded=3ff6a09e667f3bcc" ∷ [])
+    ("status=0" ∷ "line=0" ∷ "mean=0000000000000000" ∷ "shown=0" ∷ "t_count=1" ∷ "peak_terms=1" ∷ "touched=1" ∷ "discarded=3ff6a09e667f3bcc" ∷ [])
     ∷
     -- (D: t replaced by rz sine 1, cosine 0)
     row
     ("qubits=1" ∷ "run=full" ∷ "epsilon=0000000000000000" ∷ "max_terms=0" ∷ "limit=8" ∷ "terms=1" ∷ "term=3ff0000000000000:X0" ∷
     "ops=2" ∷ "op=h:0" ∷ "op=rz:0:3ff0000000000000,0000000000000000" ∷ [])
-    ("status=0" ∷ "line=0" ∷ "mean=0000000000000000" ∷ "shown=0" ∷ "t_count=1" ∷ "peak_terms=1" ∷ "discarded=0000000000000000" ∷ [])
+    ("status=0" ∷ "line=0" ∷ "mean=0000000000000000" ∷ "shown=0" ∷ "t_count=1" ∷ "peak_terms=1" ∷ "touched=2" ∷ "discarded=0000000000000000" ∷ [])
     ∷
     -- (E: term X0,Y0)
     row
     ("qubits=1" ∷ "run=full" ∷ "epsilon=0000000000000000" ∷ "max_terms=0" ∷ "limit=8" ∷ "terms=1" ∷ "term=3ff0000000000000:X0,Y0" ∷
     "ops=2" ∷ "op=h:0" ∷ "op=t:0" ∷ [])
-    ("status=6" ∷ "line=7" ∷ "mean=0000000000000000" ∷ "shown=0" ∷ "t_count=0" ∷ "peak_terms=0" ∷ "discarded=0000000000000000" ∷ [])
+    ("status=6" ∷ "line=7" ∷ "mean=0000000000000000" ∷ "shown=0" ∷ "t_count=0" ∷ "peak_terms=0" ∷ "touched=0" ∷ "discarded=0000000000000000" ∷ [])
     ∷
     -- (E: term X1)
     row
     ("qubits=1" ∷ "run=full" ∷ "epsilon=0000000000000000" ∷ "max_terms=0" ∷ "limit=8" ∷ "terms=1" ∷ "term=3ff0000000000000:X1" ∷
     "ops=2" ∷ "op=h:0" ∷ "op=t:0" ∷ [])
-    ("status=5" ∷ "line=7" ∷ "mean=0000000000000000" ∷ "shown=0" ∷ "t_count=0" ∷ "peak_terms=0" ∷ "discarded=0000000000000000" ∷ [])
+    ("status=5" ∷ "line=7" ∷ "mean=0000000000000000" ∷ "shown=0" ∷ "t_count=0" ∷ "peak_terms=0" ∷ "touched=0" ∷ "discarded=0000000000000000" ∷ [])
     ∷
     -- (F: no factors)
     row
     ("qubits=1" ∷ "run=full" ∷ "epsilon=0000000000000000" ∷ "max_terms=0" ∷ "limit=8" ∷ "terms=1" ∷ "term=3ff0000000000000:" ∷
     "ops=2" ∷ "op=h:0" ∷ "op=t:0" ∷ [])
-    ("status=0" ∷ "line=0" ∷ "mean=3ff0000000000000" ∷ "shown=1000" ∷ "t_count=1" ∷ "peak_terms=1" ∷ "discarded=0000000000000000" ∷ [])
+    ("status=0" ∷ "line=0" ∷ "mean=3ff0000000000000" ∷ "shown=1000" ∷ "t_count=1" ∷ "peak_terms=1" ∷ "touched=0" ∷ "discarded=0000000000000000" ∷ [])
     ∷
     -- (G: terms Z0 weights 1 and -1, no ops)
     row
     ("qubits=1" ∷ "run=full" ∷ "epsilon=0000000000000000" ∷ "max_terms=0" ∷ "limit=8" ∷ "terms=2" ∷ "term=3ff0000000000000:Z0" ∷
     "term=bff0000000000000:Z0" ∷ "ops=0" ∷ [])
-    ("status=0" ∷ "line=0" ∷ "mean=0000000000000000" ∷ "shown=0" ∷ "t_count=0" ∷ "peak_terms=1" ∷ "discarded=0000000000000000" ∷ [])
+    ("status=0" ∷ "line=0" ∷ "mean=0000000000000000" ∷ "shown=0" ∷ "t_count=0" ∷ "peak_terms=1" ∷ "touched=0" ∷ "discarded=0000000000000000" ∷ [])
     ∷
     -- (H: path, Z0, one damp 1.0)
     row
     ("qubits=1" ∷ "run=path" ∷ "epsilon=0000000000000000" ∷ "max_terms=0" ∷ "limit=8" ∷ "terms=1" ∷ "term=3ff0000000000000:Z0" ∷
     "ops=1" ∷ "op=damp:0:3ff0000000000000" ∷ [])
-    ("status=0" ∷ "line=0" ∷ "mean=3ff0000000000000" ∷ "shown=1000" ∷ "t_count=0" ∷ "peak_terms=2" ∷ "discarded=0000000000000000" ∷ [])
+    ("status=0" ∷ "line=0" ∷ "mean=3ff0000000000000" ∷ "shown=1000" ∷ "t_count=0" ∷ "peak_terms=2" ∷ "touched=1" ∷ "discarded=0000000000000000" ∷ [])
     ∷
     -- (I: two qubits, terms X0 and X1, limit 2, one t on 0: folded)
     row
     ("qubits=2" ∷ "run=full" ∷ "epsilon=0000000000000000" ∷ "max_terms=0" ∷ "limit=2" ∷ "terms=2" ∷ "term=3ff0000000000000:X0" ∷
     "term=3ff0000000000000:X1" ∷ "ops=1" ∷ "op=t:0" ∷ [])
-    ("status=0" ∷ "line=0" ∷ "mean=0000000000000000" ∷ "shown=0" ∷ "t_count=1" ∷ "peak_terms=2" ∷ "discarded=0000000000000000" ∷ [])
+    ("status=0" ∷ "line=0" ∷ "mean=0000000000000000" ∷ "shown=0" ∷ "t_count=1" ∷ "peak_terms=2" ∷ "touched=1" ∷ "discarded=0000000000000000" ∷ [])
     ∷
     -- (J: cone, two qubits, Z0, h on 1: skipped)
     row
     ("qubits=2" ∷ "run=cone" ∷ "epsilon=0000000000000000" ∷ "max_terms=0" ∷ "limit=8" ∷ "terms=1" ∷ "term=3ff0000000000000:Z0" ∷
     "ops=1" ∷ "op=h:1" ∷ [])
-    ("status=0" ∷ "line=0" ∷ "mean=3ff0000000000000" ∷ "shown=1000" ∷ "t_count=0" ∷ "peak_terms=1" ∷ "discarded=0000000000000000" ∷ [])
+    ("status=0" ∷ "line=0" ∷ "mean=3ff0000000000000" ∷ "shown=1000" ∷ "t_count=0" ∷ "peak_terms=1" ∷ "touched=0" ∷ "discarded=0000000000000000" ∷ [])
     ∷ []
 
 -- with the 512 rows and 256 mean places of the program `bench`

@@ -64,7 +64,7 @@ unfolding zLines
 means-short [] = record { bound = omega arith }
 means-short (z ∷ zs) = record { bound = omega (arith, after (line-short 2 16 (bytes "z=") (realText z) (omega arith) (real-short z)) (means-short zs) .bound) }
 
--- ---- a text: seven lines and the Z means
+-- ---- a text: eight lines and the Z means
 printed-short : (r : Reply) (places : List Float) → length places ≤ 256 → length (printed r places) ≤ 8192
 unfolding printed
 printed-short r places h =
@@ -75,8 +75,9 @@ printed-short r places h =
     let shown = line-short 6 21 (bytes "shown=") (intText (r .shown)) (omega arith) (signed-short (r .shown)) in
     let count = line-short 8 20 (bytes "t_count=") (natText (r .«t_count»)) (omega arith) (decimal-short 20 (r .«t_count»)) in
     let peak = line-short 11 20 (bytes "peak_terms=") (natText (r .«peak_terms»)) (omega arith) (decimal-short 20 (r .«peak_terms»)) in
+    let met = line-short 8 20 (bytes "touched=") (natText (r .touched)) (omega arith) (decimal-short 20 (r .touched)) in
     let gone = line-short 10 16 (bytes "discarded=") (realText (r .discarded)) (omega arith) (real-short (r .discarded)) in
-    let text = after status (after line (after mean (after shown (after count (after peak (after gone (means-short (take (r .means) places)))))))) in
+    let text = after status (after line (after mean (after shown (after count (after peak (after met (after gone (means-short (take (r .means) places))))))))) in
     omega (arith, text .bound, few, h)
 
 -- ---- the texts of `bench`

@@ -45,12 +45,15 @@ pub reply-failed : (run : Run) (q t n : ℕ) (end : Ending) (r : Reply) → end 
 reply-failed run q t n end r e f = f ∙ ap (replyEnd run q t) (sym e)
 
 pub reply-done : (run : Run) (q t n k : ℕ) (m : Float) (u : Tally) (s : ℤ) (end : Ending) → SFits w64 s → end ≡ Done m n u → s ≡ shownOf m → k ≡ meansCount run q
-    → reply 0 0 m (toZ w64 (ofZ w64 s)) t (u .peak) (u .discarded) k ≡ replyEnd run q t end
+    → reply 0 0 m (toZ w64 (ofZ w64 s)) t (u .peak) (u .touched) (u .discarded) k ≡ replyEnd run q t end
 reply-done run q t n k m u s end fits e f g =
-    ap (λ (x : ℤ). reply 0 0 m x t (u .peak) (u .discarded) k) (toZ-ofZ w64 s fits ∙ f) ∙ ap (reply 0 0 m (shownOf m) t (u .peak) (u .discarded)) g ∙ ap (replyEnd run q t) (sym e)
+    ap (λ (x : ℤ). reply 0 0 m x t (u .peak) (u .touched) (u .discarded) k) (toZ-ofZ w64 s fits ∙ f) ∙ ap (reply 0 0 m (shownOf m) t (u .peak) (u .touched) (u .discarded)) g ∙ ap (replyEnd run q t) (sym e)
 
-middle : (a b c d e : Bool) → (a && b && (c && d) && e) ≡ true → (c && b) ≡ true
-middle a b c d e h = let p = and-true (a && b) (c && d) (and-true (a && b && (c && d)) e h .0) in ap₂ _&&_ (and-true c d (p .1) .0) (and-true a b (p .0) .1)
+middle : (a b c d e : Bool) → (a && b && (c && d) && e) ≡ true → (c && (d && b)) ≡ true
+middle a b c d e h =
+    let p = and-true (a && b) (c && d) (and-true (a && b && (c && d)) e h .0) in
+    let q = and-true c d (p .1) in
+    ap₂ _&&_ (q .0) (ap₂ _&&_ (q .1) (and-true a b (p .0) .1))
 
 -- ---- a run that is held is the run that was asked for
 module _ (h : Head) (keys : List ℕ) (weights : List Float) (os : List Op) (ws : List ℕ) (cs m : List Float) (ix : List ℕ) (ok : Runnable h keys weights os ws cs m) where

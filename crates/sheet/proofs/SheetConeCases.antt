@@ -77,7 +77,7 @@ same-printed =
     (example .samePrinted one another asCone asFull))
 
 -- it is a success, with two terms at the most
-pub first-reply : replyOf first 16 0 ≡ reply 0 0 cosineT (pos 707) 1 2 zero64 0
+pub first-reply : replyOf first 16 0 ≡ reply 0 0 cosineT (pos 707) 1 2 3 zero64 0
 unfolding computed replyOf
 first-reply = refl
 

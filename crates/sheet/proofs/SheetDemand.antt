@@ -157,14 +157,14 @@ module _ (v : Way) (s : List ℕ) (rows places : ℕ) (e : PassesIn (bytesAs v s
 -- ---- runs that end alike are answered alike
 same-reply : (r q : Run) (os ps : List Op) {x y : Stage Outcome} → SameEnd x y → SameReply (replyRun r os x) (replyRun q ps y)
 unfolding eq ofBits
-same-reply r q os ps (sameRefusal n) = record { status = refl; line = refl; mean = refl; discarded = refl; peakTerms = refl }
-same-reply r q os ps (bothSucceed m d p) = record { status = refl; line = refl; mean = m; discarded = d; peakTerms = p }
+same-reply r q os ps (sameRefusal n) = record { status = refl; line = refl; mean = refl; discarded = refl; peakTerms = refl; touched = refl }
+same-reply r q os ps (bothSucceed m d p n) = record { status = refl; line = refl; mean = m; discarded = d; peakTerms = p; touched = n }
 
 same-text : (o p : Outcome) → NearEnd o p
-    → printed (reply 0 0 (o .mean) (shownOf (o .mean)) 0 (o .peak) (o .discarded) (length (o .means))) []
-    ≡ printed (reply 0 0 (p .mean) (shownOf (p .mean)) 0 (p .peak) (p .discarded) (length (p .means))) []
+    → printed (reply 0 0 (o .mean) (shownOf (o .mean)) 0 (o .peak) (o .touched) (o .discarded) (length (o .means))) []
+    ≡ printed (reply 0 0 (p .mean) (shownOf (p .mean)) 0 (p .peak) (p .touched) (p .discarded) (length (p .means))) []
 unfolding printed
-same-text o p e = rw (printed-bits-≈ (e .mean), shown-≈ (e .mean), printed-bits-≈ (e .discarded), e .peak, e .means)
+same-text o p e = rw (printed-bits-≈ (e .mean), shown-≈ (e .mean), printed-bits-≈ (e .discarded), e .peak, e .touched, e .means)
 
 same-printed : (r q : Run) (os ps : List Op) {x y : Stage Outcome} → Like NearEnd x y → printed (uncounted (replyRun r os x)) [] ≡ printed (uncounted (replyRun q ps y)) []
 same-printed r q os ps (stops n) = refl

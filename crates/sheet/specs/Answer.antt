@@ -48,16 +48,16 @@ runOf h ls = outcomeOf (h .run) (taskOf h ls)
 -- ---- the reply
 
 -- in the order in which they are printed, and how many `z=` lines follow
-abbrev pub reply : ℕ → ℕ → Float → ℤ → ℕ → ℕ → Float → ℕ → Reply
-reply n k m s t p d zs =
-    record { status = n; line = k; mean = m; shown = s; «t_count» = t; «peak_terms» = p; discarded = d; means = zs }
+abbrev pub reply : ℕ → ℕ → Float → ℤ → ℕ → ℕ → ℕ → Float → ℕ → Reply
+reply n k m s t p u d zs =
+    record { status = n; line = k; mean = m; shown = s; «t_count» = t; «peak_terms» = p; touched = u; discarded = d; means = zs }
 
 -- "A refusal gives its number, line and zeros for all results."
 abbrev pub refusal : ℕ → ℕ → Reply
-refusal n k = reply n k zero64 (pos 0) 0 0 zero64 0
+refusal n k = reply n k zero64 (pos 0) 0 0 0 zero64 0
 
 abbrev pub success : Run → List Op → Outcome → Reply
-success r ops o = reply 0 0 (o .mean) (shownOf (o .mean)) (tCountOf r ops) (o .peak) (o .discarded) (length (o .means))
+success r ops o = reply 0 0 (o .mean) (shownOf (o .mean)) (tCountOf r ops) (o .peak) (o .touched) (o .discarded) (length (o .means))
 
 -- "8, line 0", "9, line 0"
 abbrev pub replyRun : Run → List Op → Stage Outcome → Reply

@@ -39,7 +39,7 @@ meansCount Path qubits = 0
 -- the reply that an answer of a run stands for
 abbrev pub replyEnd : Run → ℕ → ℕ → Ending → Reply
 replyEnd r qubits t (Failed n) = refusal n 0
-replyEnd r qubits t (Done m n u) = reply 0 0 m (shownOf m) t (u .peak) (u .discarded) (meansCount r qubits)
+replyEnd r qubits t (Done m n u) = reply 0 0 m (shownOf m) t (u .peak) (u .touched) (u .discarded) (meansCount r qubits)
 
 -- the task in a table
 abbrev pub tableTask : Head → List ℕ → List Float → List Op → Task

@@ -42,17 +42,18 @@ abbrev pub taskOfBytes : List ℕ → Task
 taskOfBytes s = let ls = parts newline s in taskOf (headOf ls) ls
 
 -- ---- "end in the same refusal, number and line, or all succeed with numerically equal means and discarded weights and equal peaks"
--- (the status of success is 0, of a refusal its number, and a refusal's results are zeros)
+-- (the status of success is 0, of a refusal its number, and a refusal's results are zeros); "Full and cone runs must agree in it too": `touched`
 pub record SameReply (r s : Reply) : Type 0 where
   pub status : r .status ≡ s .status
   pub line : r .line ≡ s .line
   pub mean : Equal (r .mean) (s .mean)
   pub discarded : Equal (r .discarded) (s .discarded)
   pub peakTerms : r .«peak_terms» ≡ s .«peak_terms»
+  pub touched : r .touched ≡ s .touched
 
 -- .. and so on the bench's screen: all that is printed but t_count, which counts "in the whole list"
 abbrev pub uncounted : Reply → Reply
-uncounted r = reply (r .status) (r .line) (r .mean) (r .shown) 0 (r .«peak_terms») (r .discarded) (r .means)
+uncounted r = reply (r .status) (r .line) (r .mean) (r .shown) 0 (r .«peak_terms») (r .touched) (r .discarded) (r .means)
 
 -- ---- both conclusions, of two sheets, as `full` and as `cone`, with the rows and mean places lent to each of the four runs
 pub record DemandOfBytes (s u : List ℕ) (rows places : Which → Way → ℕ) : Type 0 where

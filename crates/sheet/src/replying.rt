@@ -18,6 +18,7 @@ pub(crate) fn refusal(status: u8, line: usize) -> Reply
         shown: 0,
         t_count: 0,
         peak_terms: 0,
+        touched: 0,
         discarded: 0.0,
         means: 0,
     }
@@ -44,6 +45,7 @@ pub(crate) fn reply_end(run: Run, qubits: usize, t_count: usize, end: Ending) ->
         Ending::Done(mean, _, tally) => {
             let shown = shown(mean);
             let peak_terms = tally.peak;
+            let touched = tally.touched;
             let discarded = tally.discarded;
             Reply {
                 status: 0,
@@ -52,6 +54,7 @@ pub(crate) fn reply_end(run: Run, qubits: usize, t_count: usize, end: Ending) ->
                 shown,
                 t_count,
                 peak_terms,
+                touched,
                 discarded,
                 means,
             }

@@ -1,5 +1,6 @@
 -- One row through a gate, and a turn of the loop over the rows. Assumes nothing.
-use mathlib.Core.Path.{_≡_, ap, _∙_}
+use mathlib.Core.Path.{_≡_, refl, sym, ap, _∙_}
+use mathlib.Core.Bool.{false}
 use mathlib.Core.List.{List, _++_}
 use Prim.Native.Nat.{ℕ, _+_, _-_, _*_, _≤_, _<_}
 use native.Mathlib.Nat.{le-refl}
@@ -7,15 +8,15 @@ use native.Mathlib.Omega.{arith}
 use lib.ListN.{length, take, drop}
 use lib.Ieee.{Float}
 use Rattle.words.specs.declared.Gate.{Gate}
-use Rattle.words.specs.Gates.{bitsAt, conjKey, conjPhase}
-use Rattle.words.proofs.GateLaws.{conjKey-length}
+use Rattle.words.specs.Gates.{bitsAt, conjKey, conjPhase, hasPhase}
+use Rattle.words.proofs.GateLaws.{conjKey-length, no-phase}
 use Rattle.words.proofs.RowSteps.{part-is, part-back}
 use Rattle.terms.specs.declared.Complex64.{Complex64}
 use Rattle.terms.specs.Lists.{mapTo}
 use Rattle.terms.specs.Coefficient.{turnedOf}
 use Rattle.terms.specs.Term.{Term, conjugated}
 use Rattle.rows.specs.Rows.{keyAt, coeffAt, termAt, rowsIn, putKey, putCoeff, Holds}
-use Rattle.rows.proofs.RowLaws.{length-key}
+use Rattle.rows.proofs.RowLaws.{length-key, put-val-same}
 use Rattle.rows.proofs.HoldLaws.{hold-map-row, room-at}
 use Rattle.rows.proofs.StepLaws.{rows-room, held-rows}
 
@@ -34,6 +35,16 @@ module _ (g : Gate) (w a b i : ℕ) (ws : List ℕ) (cs : List Float) where
         part-back w i ws k ∙ ap (putKey (2 * w) ws i) (ek ∙ ap (conjKey g w a b) e),
         ap (putCoeff cs i) (eu ∙ ap (λ (n : ℕ). turnedOf n (coeffAt cs i)) (eq ∙ ap (λ (l : List ℕ). conjPhase g (bitsAt w a b l)) e)),
       )
+
+  -- a gate that turns no coefficient
+  pub gate-unturned : {k : List ℕ} → k ≡ conjKey g w a b part → hasPhase g ≡ false
+      → (take (i * (2 * w)) ws ++ (k ++ drop (i * (2 * w) + 2 * w - i * (2 * w)) (drop (i * (2 * w)) ws))
+      ≡ putKey (2 * w) ws i (conjugated w g a b (termAt (2 * w) ws cs i) .key))
+      × (cs ≡ putCoeff cs i (conjugated w g a b (termAt (2 * w) ws cs i) .coeff))
+  unfolding conjugated turnedOf
+  gate-unturned ek e =
+      let r = gate-row ek refl refl in
+      (r .0, sym (put-val-same cs i) ∙ ap (λ (n : ℕ). putCoeff cs i (turnedOf n (coeffAt cs i))) (sym (no-phase g (bitsAt w a b (keyAt (2 * w) ws i)) e)))
 
   pub gate-long : i < rowsIn w ws cs → length (conjugated w g a b (termAt (2 * w) ws cs i) .key) ≡ 2 * w
   unfolding conjugated

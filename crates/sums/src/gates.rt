@@ -3,13 +3,18 @@ ghost use mathlib.Core.Path.{_≡_};
 ghost use mathlib.Core.List.{map};
 ghost use Prim.Native.Nat.{_*_, _≤_, _<_};
 ghost use Rattle.terms.specs.Term.{conjugated};
-ghost use Rattle.rows.specs.Rows.{termAt, termsIn, rowsIn, putKey, putCoeff, Stepped, Holds};
+ghost use Rattle.terms.specs.Met.{gateTargets};
+ghost use Rattle.rows.specs.Rows.{termAt, termsIn, rowsIn, metIn, putKey, putCoeff, Stepped, Holds};
+use rows::letters::has_targets;
+use rows::letters::met_rows;
 use rows::row;
 use terms::Complex64;
 use words::Gate;
+use words::gates::has_phase;
+use words::gates::has_two_targets;
 
 // Row i backward through a gate. Both buffers hold the row, so its words are taken as a part and its numbers by their places, with no
-// test or division for each row.
+// test or division for each row. A gate that never turns a coefficient leaves the numbers unread.
 fn conjugate_row(
     words: &mut [u64],
     coeffs: &mut [f64],
@@ -27,6 +32,9 @@ fn conjugate_row(
     let base = i * size;
     let end = base + size;
     let quarters = words::gates::conjugate_key(&mut words[base..end], w, gate, a, b);
+    if !has_phase(gate) {
+        return;
+    }
     let at = 2 * i;
     let re = coeffs[at];
     let im = coeffs[at + 1];
@@ -56,8 +64,8 @@ fn conjugate_rows(
     }
 }
 
-// Takes each of the first n terms backward through a gate: its word, and its coefficient by the gate's phase.
-pub fn conjugate_all_backward_phased(
+// The first n terms through a gate, where there are n rows.
+fn conjugate_held(
     words: &mut [u64],
     coeffs: &mut [f64],
     w: usize,
@@ -72,4 +80,30 @@ pub fn conjugate_all_backward_phased(
     if n <= row::rows_in(words.len(), coeffs.len(), w) {
         conjugate_rows(words, coeffs, w, n, gate, a, b);
     }
+}
+
+// Takes each of the first n terms backward through a gate: its word, and its coefficient by the gate's phase. The answer is how many of them
+// had a letter on at least one target. Where none had, the gate changes nothing and no row is touched.
+pub fn conjugate_all_backward_phased(
+    words: &mut [u64],
+    coeffs: &mut [f64],
+    w: usize,
+    n: usize,
+    gate: Gate,
+    a: usize,
+    b: usize,
+) -> usize
+    ensures { λ r. ⌜ (r ≡ metIn w (gateTargets gate a b) n (now (words .entry)) (now (coeffs .entry)))
+        × Stepped w n n n (map (conjugated w gate a b) (termsIn (2 * w) n (now (words .entry)) (now (coeffs .entry)))) n
+        (now (words .entry)) (now (words .exit)) (now (coeffs .entry)) (now (coeffs .exit)) ⌝ }
+{
+    let two = has_two_targets(gate);
+    let met = met_rows(words, coeffs, w, n, two, a, b);
+    if met == 0 {
+        if has_targets(w, two, a, b) {
+            return 0;
+        }
+    }
+    conjugate_held(words, coeffs, w, n, gate, a, b);
+    met
 }

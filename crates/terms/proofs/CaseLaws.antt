@@ -1,7 +1,7 @@
 -- Cases on numbers and on tests. Assumes nothing.
 use mathlib.Core.Path.{_≡_, refl, sym}
 use mathlib.Core.Logic.{_⊎_, inl, inr}
-use mathlib.Core.Bool.{Bool, true, false, _&&_, cond, and-eq-true-iff}
+use mathlib.Core.Bool.{Bool, true, false, _&&_, _||_, cond, and-eq-true-iff, false≢true}
 pub use mathlib.Core.Bool.{and-false}
 use Prim.Native.Nat.{ℕ, _≤_, _<_}
 use lib.Dec.{leb, ltb, eqb}
@@ -24,6 +24,10 @@ eq-go a b false e = inr (eqb-false a b e)
 
 pub eq-or-ne : (a b : ℕ) → (a ≡ b) ⊎ (a ≡ b → ⊥)
 eq-or-ne a b = eq-go a b (eqb a b) refl
+
+pub or-false : (b c : Bool) → b || c ≡ false → (b ≡ false) × (c ≡ false)
+or-false true c e = absurd (false≢true (sym e))
+or-false false c e = (refl, e)
 
 pub and-true : (b c : Bool) → b && c ≡ true → (b ≡ true) × (c ≡ true)
 and-true b c e = and-eq-true-iff b c .0 e

@@ -1,10 +1,12 @@
 -- Where a step acts: it changes nothing where no term has a letter at its targets, and gives no term a letter elsewhere. Assumes nothing.
-use Prim.Native.Nat.{ℕ, _*_, _<_}
+use Prim.Native.Nat.{ℕ, zero, suc, _*_, _≤_, _<_}
 use mathlib.Core.Path.{_≡_, refl, sym, ap, ap₂, _∙_}
 use mathlib.Core.Bool.{Bool, true, false, _&&_, _||_, cond, false≢true}
 use mathlib.Core.Logic.{_≢_}
 use mathlib.Core.List.{List, [], _∷_, map, append-nil}
-use lib.ListN.{getD}
+use native.Mathlib.Nat.{le-refl}
+use native.Mathlib.Omega.{arith}
+use lib.ListN.{length, getD}
 use lib.Ieee.{Float, nan}
 use Rattle.numbers.specs.Tests.{isZero}
 use Rattle.words.specs.declared.Gate.{Gate}
@@ -19,13 +21,14 @@ use Rattle.terms.specs.declared.ChannelKind.the-variants.{Local, Depolar
 use Rattle.terms.specs.declared.ChannelAction.{ChannelAction}
 use Rattle.terms.specs.Lists.{All, foldl}
 use Rattle.terms.specs.Coefficient.{turnedOf}
-use Rattle.terms.specs.Term.{Term, term, conjugated}
+use Rattle.terms.specs.Term.{Term, term, noTerm, conjugated}
 use Rattle.terms.specs.Rotation.{metBy, partnerBy, scaledMet, turnedRow, appendedRows, rotated}
+use Rattle.terms.specs.Branch.{branchRow, branchTo, branched}
+use Rattle.terms.specs.Met.{gateTargets, axisTargets, kindTargets}
 use Rattle.terms.specs.Channel.{branch, scaledLetter, scaledLocal, scaledEither, channelBy, channeled}
 use Rattle.terms.specs.Truncation.{keptOf}
 use Rattle.terms.proofs.CaseLaws.{cond-holds}
-use Rattle.terms.proofs.AllLaws.{all-imp, all-and}
-use Rattle.terms.proofs.TargetLaws.{gateTargets, axisTargets, kindTargets}
+use Rattle.terms.proofs.AllLaws.{all-at, all-imp, all-and}
 use Rattle.terms.proofs.KeySteps.{keys-kept, keys-gate, keys-rotated, keys-channeled}
 
 -- ---- a function, and a step, that change nothing where a property holds
@@ -60,10 +63,10 @@ module _ (w : ℕ) where
   -- ---- a step that meets no letter changes nothing
 
   -- neither bit is set at q, or at any of the qs
-  abbrev BareAt : Key → ℕ → Type 0
+  abbrev pub BareAt : Key → ℕ → Type 0
   BareAt k q = (bitAt k q ≡ false) × (bitAt k (zAt w q) ≡ false)
 
-  abbrev Bare : Key → List ℕ → Type 0
+  abbrev pub Bare : Key → List ℕ → Type 0
   Bare k qs = All (BareAt k) qs
 
   bare : (qs : List ℕ) (ts : List Term) → Within qs → ClearAt qs ts → All (λ (t : Term). Bare (t .key) qs) ts
@@ -82,12 +85,14 @@ module _ (w : ℕ) where
       go true h = rw (h .0 .0, h .0 .1, h .1 .0 .0, h .1 .0 .1)
       go false h = rw (h .0 .0, h .0 .1)
 
-  pub unmet-gate : (g : Gate) (a b : ℕ) (ts : List Term) → Within (gateTargets g a b) → ClearAt (gateTargets g a b) ts → map (conjugated w g a b) ts ≡ ts
+  pub bare-conjugated : (g : Gate) (a b : ℕ) (ts : List Term) → All (λ (t : Term). Bare (t .key) (gateTargets g a b)) ts → map (conjugated w g a b) ts ≡ ts
   unfolding conjugated turnedOf
-  unmet-gate g a b ts v h = map-same (λ (t : Term). Bare (t .key) (gateTargets g a b)) (conjugated w g a b) ts
+  bare-conjugated g a b ts h = map-same (λ (t : Term). Bare (t .key) (gateTargets g a b)) (conjugated w g a b) ts
       (λ t p. let m = bare-gate g a b (t .key) p in
-      ap₂ (λ (k : Key) (n : ℕ). term k (turnedOf n (t .coeff))) (unmet-key g w a b (t .key) m) (unmet-phase g (bitsAt w a b (t .key)) m))
-      (bare (gateTargets g a b) ts v h)
+      ap₂ (λ (k : Key) (n : ℕ). term k (turnedOf n (t .coeff))) (unmet-key g w a b (t .key) m) (unmet-phase g (bitsAt w a b (t .key)) m)) h
+
+  pub unmet-gate : (g : Gate) (a b : ℕ) (ts : List Term) → Within (gateTargets g a b) → ClearAt (gateTargets g a b) ts → map (conjugated w g a b) ts ≡ ts
+  unmet-gate g a b ts v h = bare-conjugated g a b ts (bare (gateTargets g a b) ts v h)
 
 module _ (met : Key → Bool) (partner : Key → Key) (sin cos : Float) where
   abbrev Unmet : Term → Type 0
@@ -97,6 +102,17 @@ module _ (met : Key → Bool) (partner : Key → Key) (sin cos : Float) where
   unfolding appendedRows
   unmet-appended old [] h = refl
   unmet-appended old (t ∷ ts) h = rw (h .0) (unmet-appended old ts (h .1))
+
+  -- the rotation in place, row after row
+  unmet-rows-to : (n i : ℕ) (ts : List Term) → i ≤ length ts → All Unmet ts → branchTo met partner sin cos n i ts ≡ ts
+  unfolding branchTo branchRow
+  unmet-rows-to n zero ts l h = refl
+  unmet-rows-to n (suc i) ts l h = rw (unmet-rows-to n i ts (omega arith) h, all-at Unmet ts i noTerm (omega arith) h) refl
+
+  unmet-in-place : (ts : List Term) → All Unmet ts → branched met partner sin cos ts ≡ ts
+  unfolding branched
+  unmet-in-place ts h =
+      cond-holds (λ us. us ≡ ts) (isZero sin) (map-same Unmet (scaledMet met partner sin cos) ts (λ t e. rw e) h) (unmet-rows-to (length ts) (length ts) ts (le-refl _) h)
 
   unmet-rows : (ts : List Term) → All Unmet ts → rotated met partner sin cos ts ≡ ts
   unfolding rotated
@@ -110,15 +126,20 @@ module _ (w : ℕ) where
   bare-axis (Z q) k h = h .0 .0
   bare-axis (Zz a b) k h = rw (h .0 .0, h .1 .0 .0)
 
+  bare-unmet : (x : Axis) (ts : List Term) → All (λ (t : Term). Bare w (t .key) (axisTargets x)) ts → All (λ (t : Term). metBy x (t .key) ≡ false) ts
+  bare-unmet x ts = all-imp (λ (t : Term). Bare w (t .key) (axisTargets x)) (λ t. metBy x (t .key) ≡ false) ts (λ t p. bare-axis x (t .key) p)
+
+  pub bare-branched : (x : Axis) (sin cos : Float) (ts : List Term) → All (λ (t : Term). Bare w (t .key) (axisTargets x)) ts
+      → branched (metBy x) (partnerBy w x) sin cos ts ≡ ts
+  bare-branched x sin cos ts h = unmet-in-place (metBy x) (partnerBy w x) sin cos ts (bare-unmet x ts h)
+
   pub unmet-rotated : (x : Axis) (sin cos : Float) (ts : List Term) → Within w (axisTargets x) → ClearAt w (axisTargets x) ts
       → rotated (metBy x) (partnerBy w x) sin cos ts ≡ ts
-  unmet-rotated x sin cos ts v h = unmet-rows (metBy x) (partnerBy w x) sin cos ts
-      (all-imp (λ (t : Term). Bare w (t .key) (axisTargets x)) (λ t. metBy x (t .key) ≡ false) ts (λ t p. bare-axis x (t .key) p) (bare w (axisTargets x) ts v h))
+  unmet-rotated x sin cos ts v h = unmet-rows (metBy x) (partnerBy w x) sin cos ts (bare-unmet x ts (bare w (axisTargets x) ts v h))
 
-  pub unmet-channeled : (a b : ℕ) (c : ChannelAction) (ts : List Term) → Within w (kindTargets (c .kind) a b) → ClearAt w (kindTargets (c .kind) a b) ts
-      → channeled w a b c ts ≡ ts
+  pub bare-channeled : (a b : ℕ) (c : ChannelAction) (ts : List Term) → All (λ (t : Term). Bare w (t .key) (kindTargets (c .kind) a b)) ts → channeled w a b c ts ≡ ts
   unfolding channeled scaledLocal
-  unmet-channeled a b c ts v h = go (c .kind) (bare w (kindTargets (c .kind) a b) ts v h)
+  bare-channeled a b c ts h = go (c .kind) h
     where
       go : (k : ChannelKind) → All (λ (t : Term). Bare w (t .key) (kindTargets k a b)) ts → channelBy k w a b c ts ≡ ts
       go Local p =
@@ -128,6 +149,10 @@ module _ (w : ℕ) where
           ∙ map-same P (scaledLetter w a (c .lambda)) ts (λ t e. rw (e .0 .0, e .0 .1)) p
       go Depolarizing2q p = map-same (λ (t : Term). Bare w (t .key) (a ∷ b ∷ [])) (scaledEither w a b (getD (c .lambda) 0 nan)) ts
           (λ t e. rw (e .0 .0, e .0 .1, e .1 .0 .0, e .1 .0 .1)) p
+
+  pub unmet-channeled : (a b : ℕ) (c : ChannelAction) (ts : List Term) → Within w (kindTargets (c .kind) a b) → ClearAt w (kindTargets (c .kind) a b) ts
+      → channeled w a b c ts ≡ ts
+  unmet-channeled a b c ts v h = bare-channeled a b c ts (bare w (kindTargets (c .kind) a b) ts v h)
 
   -- ---- no letter appears but at a target
   module _ (r : ℕ) where

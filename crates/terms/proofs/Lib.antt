@@ -17,3 +17,4 @@ pub mod NearSteps
 pub mod LetterSteps
 pub mod ParityLaws
 pub mod SizeLaws
+pub mod MetLaws

@@ -26,7 +26,8 @@ use Rattle.terms.specs.Channel.{insert, branch, withBranches, scaledLett
 use Rattle.terms.specs.Lists.{Each, none, more}
 use Rattle.terms.proofs.NearLaws.{each-map, each-append, each-fold, each-getD, cond-both, cond-same}
 use Rattle.terms.proofs.NearLaws.{NearC, near-scaled, near-flipped, near-plus, near-turned, NearTerm, at-key, by-key, Near}
-use Rattle.terms.proofs.TargetLaws.{gateTargets, gate-by-targets}
+use Rattle.terms.specs.Met.{gateTargets}
+use Rattle.terms.proofs.TargetLaws.{gate-by-targets}
 
 -- ---- gates
 

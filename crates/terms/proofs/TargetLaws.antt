@@ -2,31 +2,19 @@
 use Prim.Native.Nat.{ℕ}
 use mathlib.Core.Path.{_≡_, refl, ap, ap₂, _∙_}
 use mathlib.Core.Bool.{Bool, true, false, cond}
-use mathlib.Core.List.{List, [], _∷_}
+use mathlib.Core.List.{[], _∷_}
 use Rattle.words.specs.declared.Gate.{Gate}
 use Rattle.words.specs.Keys.{Key}
 use Rattle.words.specs.Gates.{hasTwoTargets}
 use Rattle.words.proofs.GateLaws.{one-target-key, one-target-phase}
-use Rattle.terms.specs.declared.Axis.{Axis}
-use Rattle.terms.specs.declared.Axis.the-variants.{Z, Zz}
 use Rattle.terms.specs.declared.NoiseChannel.{NoiseChannel}
 use Rattle.terms.specs.declared.NoiseChannel.the-variants.{Pauli, Depolarizing, AmplitudeDamping, PhaseDamping, ThermalRelaxation, TwoQubitDepolarizing}
 use Rattle.terms.specs.declared.ChannelKind.{ChannelKind}
 use Rattle.terms.specs.declared.ChannelKind.the-variants.{Local, Depolarizing2q}
 use Rattle.terms.specs.Coefficient.{turnedOf}
 use Rattle.terms.specs.Term.{Term, term, conjugated}
+use Rattle.terms.specs.Met.{gateTargets}
 use Rattle.terms.specs.Channel.{pauliAction, depolAction, phaseAction, dampAction, thermalAction, depol2Action, actionOf}
-
-abbrev pub gateTargets : Gate → ℕ → ℕ → List ℕ
-gateTargets g a b = cond (hasTwoTargets g) (a ∷ b ∷ []) (a ∷ [])
-
-abbrev pub axisTargets : Axis → List ℕ
-axisTargets (Z q) = q ∷ []
-axisTargets (Zz a b) = a ∷ b ∷ []
-
-abbrev pub kindTargets : ChannelKind → ℕ → ℕ → List ℕ
-kindTargets Local a b = a ∷ []
-kindTargets Depolarizing2q a b = a ∷ b ∷ []
 
 abbrev pub kindOf : NoiseChannel → ChannelKind
 kindOf (Pauli x y z) = Local

@@ -3,7 +3,7 @@
 --   Term          a term, gates on it             Branch       the same rotation, in place
 --   Start         term lines and their merge      Channel      the six channels
 --   Truncation    the drop of small terms         Mean         the mean
---   Parity        which part of a coefficient is zero
+--   Parity        which part of a coefficient is zero   Met    how many terms have a letter at given qubits
 pub mod Lists
 pub mod Coefficient
 pub mod Term
@@ -13,5 +13,6 @@ pub mod Branch
 pub mod Channel
 pub mod Truncation
 pub mod Mean
+pub mod Met
 pub mod Parity
 pub mod Cases

@@ -1,11 +1,12 @@
 -- What an op does to a sum: ops that agree do the same up to the signs of zeros, an op that meets identities only changes nothing, and no
--- letter appears but at a target. Assumes nothing.
-use Prim.Native.Nat.{ℕ, _*_}
-use mathlib.Core.Path.{_≡_, refl, sym, ap, subst}
+-- letter appears but at a target; and how many terms it meets: the same for sums that agree, none where it meets identities only, no more
+-- than there are. Assumes nothing.
+use Prim.Native.Nat.{ℕ, _*_, _≤_, zero-le}
+use mathlib.Core.Path.{_≡_, refl, sym, ap, _∙_, subst}
 use mathlib.Core.Bool.{Bool, true, false, not, cond, _&&_}
 use mathlib.Core.List.{List, [], _∷_, map}
 use lib.Dec.{ltb, eqb}
-use lib.ListN.{getD}
+use lib.ListN.{length, getD}
 use borrow.Author.Tests.{ltb-true}
 use lib.Ieee.{Float, neg}
 use Rattle.numbers.specs.Close.{_≈_, same}
@@ -22,17 +23,19 @@ use Rattle.terms.specs.declared.ChannelKind.the-variants as K
 use Rattle.terms.specs.Term.{Term, conjugated}
 use Rattle.terms.specs.Rotation.{metBy, partnerBy}
 use Rattle.terms.specs.Channel.{actionOf}
-use Rattle.terms.proofs.CaseLaws.{and-true}
+use Rattle.terms.proofs.CaseLaws.{and-true, cond-holds}
+use Rattle.terms.specs.Met.{gateTargets, axisTargets, kindTargets, metTerms}
+use Rattle.terms.proofs.MetLaws as M
 use Rattle.terms.specs.Lists.{Each}
 use Rattle.terms.proofs.NearLaws.{each-refl, each-getD, cond-same, Near, near-refl, near-sym, near-trans}
 use Rattle.terms.proofs.NearSteps.{near-gate, near-rotated, near-channeled, NearChannel, near-action}
 use Rattle.terms.proofs.NearSteps.{near-pauli, near-depolarizing, near-damping, near-phase, near-thermal, near-depolarizing2}
-use Rattle.terms.proofs.TargetLaws.{gateTargets, axisTargets, kindTargets, kindOf, action-kind}
+use Rattle.terms.proofs.TargetLaws.{kindOf, action-kind}
 use Rattle.terms.proofs.LetterSteps.{Apart, Within, Clear, ClearAt, unmet-gate, unmet-rotated, unmet-channeled, clear-gate, clear-rotated, clear-channeled}
 use Rattle.turns.specs.declared.Op.{Op}
 use Rattle.turns.specs.declared.Op.the-variants.{Native, T, Tdg, Rz, P, Rzz}
 use Rattle.turns.specs.declared.Op.the-variants.{Pauli, Depol, Damp, Phase, Thermal, Depol2, Barrier}
-use Rattle.turns.specs.Ops.{shapeOf, targets, turned, noisy, actOn, onWords, act}
+use Rattle.turns.specs.Ops.{shapeOf, targets, turned, noisy, actOn, onWords, act, met}
 use Rattle.turns.specs.MarkedOps.{withParts, nameOf, SameOp}
 
 pub same-op : (op : Op) → SameOp _≈_ op op
@@ -176,3 +179,23 @@ module _ (w : ℕ) where
       go : (on : Bool) → (on ≡ true → Within w (targets op)) → Clear w r (cond on (actOn w op ts) ts)
       go true v = local-op op .clear r ts (v refl) n h
       go false v = h
+
+  -- ---- how many terms an op meets
+
+  pub met-near : {o p : Op} {ts us : List Term} → SameOp _≈_ o p → Near ts us → met w o ts ≡ met w p us
+  unfolding met
+  met-near {o} {p} {ts} {us} e n =
+      ap (λ (m : ℕ). cond (onWords w (targets o)) m 0) (M.met-near w (targets o) n) ∙ ap (λ (qs : List ℕ). cond (onWords w qs) (metTerms w qs us) 0) (e .targets)
+
+  -- "since a skipped gate meets nothing"
+  pub met-unmet : (op : Op) (ts : List Term) → ClearAt w (targets op) ts → met w op ts ≡ 0
+  unfolding met
+  met-unmet op ts h = go (onWords w (targets op)) (local-op op .within)
+    where
+      go : (on : Bool) → (on ≡ true → Within w (targets op)) → cond on (metTerms w (targets op) ts) 0 ≡ 0
+      go true v = M.met-none w (targets op) ts (v refl) h
+      go false v = refl
+
+  pub met-few : (op : Op) (ts : List Term) → met w op ts ≤ length ts
+  unfolding met
+  met-few op ts = cond-holds (λ n. n ≤ length ts) (onWords w (targets op)) (M.met-few w (targets op) ts) zero-le

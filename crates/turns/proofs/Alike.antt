@@ -47,7 +47,7 @@ module _ {S : Type 0} {R : S → S → Type 0} where
   bind-like f g h (stops n) = stops n
   bind-like f g h (goes {s} {t} p) = h s t p
 
-  ask-like : (n : ℕ) {b c : Bool} {x y : Stage S} → b ≡ c → Like R x y → Like R (ask n b x) (ask n c y)
+  pub ask-like : (n : ℕ) {b c : Bool} {x y : Stage S} → b ≡ c → Like R x y → Like R (ask n b x) (ask n c y)
   ask-like n {b} {x} {y} e h = subst (λ (c : Bool). Like R (ask n b x) (ask n c y)) e (go b)
     where
       go : (b : Bool) → Like R (ask n b x) (ask n b y)
@@ -62,7 +62,7 @@ pub bind-holds : {S O : Type 0} (P : S → Type 0) (Q : O → Type 0) (x : Stage
 bind-holds P Q (refused n) f h k = tt
 bind-holds P Q (going s) f h k = k s h
 
-ask-holds : {S : Type 0} (P : S → Type 0) (n : ℕ) (b : Bool) (x : Stage S) → (b ≡ true → Holds P x) → Holds P (ask n b x)
+pub ask-holds : {S : Type 0} (P : S → Type 0) (n : ℕ) (b : Bool) (x : Stage S) → (b ≡ true → Holds P x) → Holds P (ask n b x)
 ask-holds P n true x h = h refl
 ask-holds P n false x h = tt
 
@@ -71,15 +71,21 @@ pub record Near (s t : State) : Type 0 where
   pub terms : L.Near (s .terms) (t .terms)
   pub peak : s .peak ≡ t .peak
   pub discarded : s .discarded ≈ t .discarded
+  pub touched : s .touched ≡ t .touched
 
 pub near-refl : (s : State) → Near s s
-near-refl s = record { terms = L.near-refl (s .terms); peak = refl; discarded = same }
+near-refl s = record { terms = L.near-refl (s .terms); peak = refl; discarded = same; touched = refl }
 
 pub near-sym : (s t : State) → Near s t → Near t s
-near-sym s t p = record { terms = L.near-sym (p .terms); peak = sym (p .peak); discarded = ≈-sym (p .discarded) }
+near-sym s t p = record { terms = L.near-sym (p .terms); peak = sym (p .peak); discarded = ≈-sym (p .discarded); touched = sym (p .touched) }
 
 pub near-trans : (s t u : State) → Near s t → Near t u → Near s u
-near-trans s t u p q = record { terms = L.near-trans (p .terms) (q .terms); peak = p .peak ∙ q .peak; discarded = ≈-trans (p .discarded) (q .discarded) }
+near-trans s t u p q = record {
+  terms = L.near-trans (p .terms) (q .terms);
+  peak = p .peak ∙ q .peak;
+  discarded = ≈-trans (p .discarded) (q .discarded);
+  touched = p .touched ∙ q .touched;
+}
 
 -- limits with epsilons equal as numbers
 pub record NearLimits (l m : Limits) : Type 0 where
@@ -94,7 +100,7 @@ near-fine : {s t : State} → Near s t → fine s ≡ fine t
 near-fine p = ap₂ _&&_ (near-finite (p .terms)) (finite-≈ (p .discarded))
 
 near-drop : {e f : Float} {s t : State} → e ≈ f → Near s t → Near (dropSmall e s) (dropSmall f t)
-near-drop p q = record { terms = near-kept p (q .terms); peak = q .peak; discarded = add-≈ binary64 (q .discarded) (near-dropped p (q .terms)) }
+near-drop p q = record { terms = near-kept p (q .terms); peak = q .peak; discarded = add-≈ binary64 (q .discarded) (near-dropped p (q .terms)); touched = q .touched }
 
 module _ {l m : Limits} (e : NearLimits l m) {s t : State} (p : Near s t) where
   near-truncated : Near (truncated l s) (truncated m t)
@@ -103,7 +109,7 @@ module _ {l m : Limits} (e : NearLimits l m) {s t : State} (p : Near s t) where
   near-checked : Like Near (checked l s) (checked m t)
   unfolding checked
   near-checked = ask-like 8 (near-fine p) (ask-like 9 (ap₂ leb (near-length (p .terms)) (e .limit))
-      (goes (record { terms = p .terms; peak = ap₂ max (p .peak) (near-length (p .terms)); discarded = p .discarded })))
+      (goes (record { terms = p .terms; peak = ap₂ max (p .peak) (near-length (p .terms)); discarded = p .discarded; touched = p .touched })))
 
 pub near-settle : {l m : Limits} {s t : State} → NearLimits l m → Near s t → Like Near (settle l s) (settle m t)
 unfolding settle
@@ -148,6 +154,7 @@ module _ (l : Limits) (s : State) where
         terms = near-of (kept-kept e (s .terms));
         peak = refl;
         discarded = rw (dropped-kept e zero64 (s .terms)) (plus-zero (d .discarded) (add-fits binary64 (s .discarded) (droppedOf e (s .terms))));
+        touched = refl;
       }
 
       once : (b : Bool) → Near (cond b (dropSmall e (counted d)) (counted d)) (counted d)
@@ -159,7 +166,7 @@ module _ (l : Limits) (s : State) where
       go false h = rw h (near-refl (counted s))
 
   -- what holds of the state it leaves
-  settle-holds : (P : State → Type 0) → let u = truncated l s in
+  pub settle-holds : (P : State → Type 0) → let u = truncated l s in
       (fine u ≡ true → leb (length (u .terms)) (l .limit) ≡ true → P (counted u)) → Holds P (settle l s)
   unfolding settle checked
   settle-holds P f =
@@ -178,7 +185,7 @@ unfolding settle checked
 settled-of l s f g h t = rw f (like-trans near-trans (near-checked (near-limits-refl l) t) (rw (f, g) (goes uncounted)))
   where
     uncounted : Near (counted s) s
-    uncounted = record { terms = L.near-refl (s .terms); peak = omega arith; discarded = same }
+    uncounted = record { terms = L.near-refl (s .terms); peak = omega arith; discarded = same; touched = refl }
 
 pub settle-settled : (l : Limits) (s : State) → Holds (Settled l) (settle l s)
 settle-settled l s = settle-holds l s (Settled l) (λ f g. settled-of l (counted (truncated l s)) f g (omega arith) (truncated-again l s))
@@ -197,9 +204,10 @@ pub record NearEnd (o p : Outcome) : Type 0 where
   pub means : o .means ≡ p .means
   pub peak : o .peak ≡ p .peak
   pub discarded : o .discarded ≈ p .discarded
+  pub touched : o .touched ≡ p .touched
 
 pub near-end-sym : (o p : Outcome) → NearEnd o p → NearEnd p o
-near-end-sym o p e = record { terms = L.near-sym (e .terms); mean = ≈-sym (e .mean); means = sym (e .means); peak = sym (e .peak); discarded = ≈-sym (e .discarded) }
+near-end-sym o p e = record { terms = L.near-sym (e .terms); mean = ≈-sym (e .mean); means = sym (e .means); peak = sym (e .peak); discarded = ≈-sym (e .discarded); touched = sym (e .touched) }
 
 pub near-end-trans : (o p q : Outcome) → NearEnd o p → NearEnd p q → NearEnd o q
 near-end-trans o p q e f = record {
@@ -208,6 +216,7 @@ near-end-trans o p q e f = record {
   means = e .means ∙ f .means;
   peak = e .peak ∙ f .peak;
   discarded = ≈-trans (e .discarded) (f .discarded);
+  touched = e .touched ∙ f .touched;
 }
 
 pub record FiniteEnd (o : Outcome) : Type 0 where
@@ -219,7 +228,7 @@ module _ (w : ℕ) where
   unfolding ended
   near-ended p =
       let m = near-mean w (p .terms) in
-      ask-like 8 (ap₂ _&&_ (near-fine p) (finite-≈ m)) (goes (record { terms = p .terms; mean = m; means = refl; peak = p .peak; discarded = p .discarded }))
+      ask-like 8 (ap₂ _&&_ (near-fine p) (finite-≈ m)) (goes (record { terms = p .terms; mean = m; means = refl; peak = p .peak; discarded = p .discarded; touched = p .touched }))
 
   pub near-finish : {l m : Limits} {s t : State} → NearLimits l m → Near s t → Like NearEnd (finish w l s) (finish w m t)
   unfolding finish
@@ -229,7 +238,7 @@ module _ (w : ℕ) where
   unfolding ended
   finite-ended s =
       let m = meanOf w (s .terms) in
-      ask-holds FiniteEnd 8 (fine s && isFinite m) (going (outcome (s .terms) m [] (s .peak) (s .discarded))) λ e.
+      ask-holds FiniteEnd 8 (fine s && isFinite m) (going (outcome (s .terms) m [] (s .peak) (s .discarded) (s .touched))) λ e.
       let h = and-true (fine s) (isFinite m) e in
       record { mean = holds (h .1); discarded = holds (and-true (allFinite (s .terms)) (isFinite (s .discarded)) (h .0) .1) }
 

@@ -1,8 +1,9 @@
 -- Ops outside the inverse light cone change nothing: a run that sets at least the ops of the cone ends like the cone run, an op that the cone
 -- does not mark meets identities only at its turn, and runs whose marked ops agree end alike. Assumes nothing.
-use mathlib.Core.Path.{_≡_, refl, sym, ap, _∙_, subst}
-use Prim.Native.Nat.{ℕ}
-use mathlib.Core.Bool.{Bool, true, false, _||_, cond, false≢true}
+use mathlib.Core.Path.{_≡_, refl, sym, ap, ap₂, _∙_, subst}
+use Prim.Native.Nat.{ℕ, _+_}
+use native.Mathlib.Omega.{arith}
+use mathlib.Core.Bool.{Bool, true, false, not, _||_, cond, false≢true}
 use mathlib.Core.List.{List, [], _∷_, _++_}
 use lib.Dec.{eqb}
 use borrow.Author.Tests.{eqb-false}
@@ -14,11 +15,14 @@ use Rattle.terms.specs.Lists.{Each, none, more}
 use Rattle.terms.proofs.LetterSteps.{Apart, Clear, ClearAt}
 use Rattle.turns.specs.declared.Limits.{Limits}
 use Rattle.turns.specs.declared.Op.{Op}
-use Rattle.turns.specs.Ops.{targets, act}
+use Rattle.turns.specs.declared.Op.the-variants.{Native, T, Tdg, Rz, P, Rzz}
+use Rattle.turns.specs.declared.Op.the-variants.{Pauli, Depol, Damp, Phase, Thermal, Depol2, Barrier}
+use Rattle.turns.specs.Ops.{shapeOf, targets, isBarrier, act, met}
 use Rattle.turns.specs.Turn.{Stage, refused, going, bind, State, state, settle, finish}
-use Rattle.turns.specs.Runs.{turn, step, runs, markedRun, markAll, member, touches, coneOf, markCone}
+use Rattle.turns.specs.Runs.{turn, step, runs, markedRun, markAll, markPath, member, touches, coneOf, markCone}
 use Rattle.turns.specs.MarkedOps.{SameOp, chosen, Holds}
 use Rattle.turns.proofs.ActLaws.{same-op, act-near, act-unmet, act-clear}
+use Rattle.turns.proofs.ActLaws.{met-near, met-unmet}
 use Rattle.turns.proofs.Alike.{Like, stops, goes, like-trans, bind-like, holds-imp, bind-holds, Near, near-refl, near-trans, NearLimits, near-limits-refl}
 use Rattle.turns.proofs.Alike.{near-settle, Settled, settle-settled, settle-clear, NearEnd, near-finish, FiniteEnd, finite-finish}
 
@@ -55,12 +59,39 @@ unfolding markCone
 covers-cone qs [] = tt
 covers-cone qs (op ∷ ops) = (λ e. e, covers-cone qs ops)
 
+-- `path` leaves out barriers alone, which have no target
+path-covers : (op : Op) (c : List ℕ) → touches (targets op) c ≡ true → not (isBarrier (shapeOf op .sort)) ≡ true
+unfolding touches
+path-covers (Native g a b) c e = refl
+path-covers (T q) c e = refl
+path-covers (Tdg q) c e = refl
+path-covers (Rz q s d) c e = refl
+path-covers (P q s d) c e = refl
+path-covers (Rzz a b s d) c e = refl
+path-covers (Pauli q px py pz) c e = refl
+path-covers (Depol q p) c e = refl
+path-covers (Damp q gamma) c e = refl
+path-covers (Phase q gamma) c e = refl
+path-covers (Thermal q gad gpd excited) c e = refl
+path-covers (Depol2 a b p) c e = refl
+path-covers Barrier c e = e
+
+pub covers-path : (qs : List ℕ) (ops : List Op) → Covers qs (markPath ops) ops
+covers-path qs [] = tt
+covers-path qs (op ∷ ops) = (path-covers op (coneOf qs ops), covers-path qs ops)
+
 module _ (w : ℕ) where
   abbrev acted : Op → State → State
-  acted op s = state (act w op (s .terms)) (s .peak) (s .discarded)
+  acted op s = state (act w op (s .terms)) (s .peak) (s .discarded) (s .touched + met w op (s .terms))
 
   near-turn : {l l' : Limits} {o p : Op} {s t : State} → NearLimits l l' → SameOp _≈_ o p → Near s t → Like Near (turn w l o s) (turn w l' p t)
-  near-turn e o n = near-settle e (record { terms = act-near w o (n .terms); peak = n .peak; discarded = n .discarded })
+  near-turn e o n = near-settle e (record { terms = act-near w o (n .terms); peak = n .peak; discarded = n .discarded; touched = ap₂ _+_ (n .touched) (met-near w o (n .terms)) })
+
+  -- an op that meets identities only changes nothing, and is counted as nothing
+  acted-unmet : (op : Op) (s : State) → ClearAt w (targets op) (s .terms) → acted op s ≡ s
+  acted-unmet op s h =
+      ap₂ (λ (ts : List Term) (n : ℕ). state ts (s .peak) (s .discarded) n) (act-unmet w op (s .terms) h)
+      (ap (λ (n : ℕ). s .touched + n) (met-unmet w op (s .terms) h) ∙ omega arith)
 
   pub run-finite : (l : Limits) (ms : List Bool) (ops : List Op) (s : State) → Holds FiniteEnd (markedRun w l ms ops s)
   unfolding markedRun
@@ -70,11 +101,10 @@ module _ (w : ℕ) where
       go (refused n) = tt
       go (going t) = finite-finish w l t
 
-  -- ---- one list of ops, from any settled start that has letters at the qs only
-  module _ (l : Limits) (s₀ : State) (qs : List ℕ) (settled₀ : Settled l s₀) (clear₀ : (q : ℕ) → member q qs ≡ false → Clear w q (s₀ .terms)) where
-    -- what the run keeps: it is settled, and has letters in the cone only
+  -- ---- one list of ops, from any start that has letters at the qs only
+  module _ (l : Limits) (s₀ : State) (qs : List ℕ) (clear₀ : (q : ℕ) → member q qs ≡ false → Clear w q (s₀ .terms)) where
+    -- what the run keeps: it has letters in the cone only
     record Inside (c : List ℕ) (s : State) : Type 0 where
-      settled : Settled l s
       clear : (q : ℕ) → member q c ≡ false → Clear w q (s .terms)
 
     unmet : {c : List ℕ} {s : State} (op : Op) → Inside c s → touches (targets op) c ≡ false → ClearAt w (targets op) (s .terms)
@@ -84,11 +114,11 @@ module _ (w : ℕ) where
     next c op = cond (touches (targets op) c) (targets op ++ c) c
 
     turn-inside : (c : List ℕ) (op : Op) (s : State) → Inside c s → Holds (Inside (next c op)) (turn w l op s)
-    turn-inside c op s i = both (turn w l op s) (settle-settled l (acted op s)) (λ q h. settle-clear w q l (acted op s) (go (touches (targets op) c) refl q h))
+    turn-inside c op s i = both (turn w l op s) (λ q h. settle-clear w q l (acted op s) (go (touches (targets op) c) refl q h))
       where
-        both : (x : Stage State) → Holds (Settled l) x → ((q : ℕ) → member q (next c op) ≡ false → Holds (λ t. Clear w q (t .terms)) x) → Holds (Inside (next c op)) x
-        both (refused n) a b = tt
-        both (going t) a b = record { settled = a; clear = b }
+        both : (x : Stage State) → ((q : ℕ) → member q (next c op) ≡ false → Holds (λ t. Clear w q (t .terms)) x) → Holds (Inside (next c op)) x
+        both (refused n) b = tt
+        both (going t) b = record { clear = b }
 
         go : (b : Bool) → touches (targets op) c ≡ b → (q : ℕ) → member q (cond b (targets op ++ c) c) ≡ false → Clear w q (acted op s .terms)
         go true e q h = let o = outside (targets op) c q h in act-clear w op q (s .terms) (o .0) (i .clear q (o .1))
@@ -104,40 +134,50 @@ module _ (w : ℕ) where
 
     inside : (ms : List Bool) (ops : List Op) → Covers qs ms ops → Holds (Inside (coneOf qs ops)) (runs w l ms ops s₀)
     unfolding runs coneOf
-    inside ms [] k = record { settled = settled₀; clear = clear₀ }
+    inside ms [] k = record { clear = clear₀ }
     inside [] (op ∷ ops) k = absurd k
     inside (m ∷ ms) (op ∷ ops) k =
         let c = coneOf qs ops in
         bind-holds (Inside c) (Inside (next c op)) (runs w l ms ops s₀) (step w l m op) (inside ms ops (k .1)) (step-inside c op m (k .0))
 
-    -- an op that the cone does not mark meets identities only when its turn comes, after the ops of the list
+    -- an op that the cone does not mark meets identities only when its turn comes, after the ops of the list; whatever the start and the limits
     pub unmarked-unmet : (op : Op) (ms : List Bool) (ops : List Op) → Covers qs ms ops → touches (targets op) (coneOf qs ops) ≡ false
         → Holds (λ s. ClearAt w (targets op) (s .terms)) (runs w l ms ops s₀)
     unmarked-unmet op ms ops k h =
         holds-imp (Inside (coneOf qs ops)) (λ s. ClearAt w (targets op) (s .terms)) (runs w l ms ops s₀) (λ s i. unmet op i h) (inside ms ops k)
 
-    step-like : (c : List ℕ) (op : Op) (m : Bool) → (touches (targets op) c ≡ true → m ≡ true) → {x y : Stage State} → Holds (Inside c) x → Like Near x y
-        → Like Near (bind x (step w l m op)) (bind y (step w l (touches (targets op) c) op))
-    step-like c op m k i (stops n) = stops n
-    step-like c op m k i (goes {s} {t} p) = go m (touches (targets op) c) refl k
-      where
-        go : (m b : Bool) → touches (targets op) c ≡ b → (b ≡ true → m ≡ true) → Like Near (step w l m op s) (step w l b op t)
-        go true true e k = near-turn (near-limits-refl l) (same-op op) p
-        go true false e k = subst (λ (ts : List Term). Like Near (settle l (state ts (s .peak) (s .discarded))) (going t))
-            (sym (act-unmet w op (s .terms) (unmet op i e))) (like-trans near-trans (i .settled) (goes p))
-        go false true e k = absurd (false≢true (k refl))
-        go false false e k = goes p
+    -- ---- if the start is settled: a run that sets at least the ops of the cone ends like the cone run
+    module _ (settled₀ : Settled l s₀) where
+      settled : (ms : List Bool) (ops : List Op) → Holds (Settled l) (runs w l ms ops s₀)
+      unfolding runs
+      settled ms [] = settled₀
+      settled [] (op ∷ ops) = settled₀
+      settled (m ∷ ms) (op ∷ ops) = bind-holds (Settled l) (Settled l) (runs w l ms ops s₀) (step w l m op) (settled ms ops) (go m)
+        where
+          go : (m : Bool) (s : State) → Settled l s → Holds (Settled l) (step w l m op s)
+          go true s h = settle-settled l (acted op s)
+          go false s h = h
 
-    covered : (ms : List Bool) (ops : List Op) → Covers qs ms ops → Like Near (runs w l ms ops s₀) (runs w l (markCone qs ops) ops s₀)
-    unfolding runs markCone
-    covered ms [] k = goes (near-refl s₀)
-    covered [] (op ∷ ops) k = absurd k
-    covered (m ∷ ms) (op ∷ ops) k = step-like (coneOf qs ops) op m (k .0) (inside ms ops (k .1)) (covered ms ops (k .1))
+      step-like : (c : List ℕ) (op : Op) (m : Bool) → (touches (targets op) c ≡ true → m ≡ true) → {x y : Stage State} → Holds (Inside c) x → Holds (Settled l) x → Like Near x y
+          → Like Near (bind x (step w l m op)) (bind y (step w l (touches (targets op) c) op))
+      step-like c op m k i j (stops n) = stops n
+      step-like c op m k i j (goes {s} {t} p) = go m (touches (targets op) c) refl k
+        where
+          go : (m b : Bool) → touches (targets op) c ≡ b → (b ≡ true → m ≡ true) → Like Near (step w l m op s) (step w l b op t)
+          go true true e k = near-turn (near-limits-refl l) (same-op op) p
+          go true false e k = subst (λ (u : State). Like Near (settle l u) (going t)) (sym (acted-unmet op s (unmet op i e))) (like-trans near-trans j (goes p))
+          go false true e k = absurd (false≢true (k refl))
+          go false false e k = goes p
 
-    -- a run that sets at least the ops of the cone ends like the cone run
-    pub cone-run : (ms : List Bool) (ops : List Op) → Covers qs ms ops → Like NearEnd (markedRun w l ms ops s₀) (markedRun w l (markCone qs ops) ops s₀)
-    unfolding markedRun
-    cone-run ms ops k = bind-like (finish w l) (finish w l) (λ s t p. near-finish w (near-limits-refl l) p) (covered ms ops k)
+      covered : (ms : List Bool) (ops : List Op) → Covers qs ms ops → Like Near (runs w l ms ops s₀) (runs w l (markCone qs ops) ops s₀)
+      unfolding runs markCone
+      covered ms [] k = goes (near-refl s₀)
+      covered [] (op ∷ ops) k = absurd k
+      covered (m ∷ ms) (op ∷ ops) k = step-like (coneOf qs ops) op m (k .0) (inside ms ops (k .1)) (settled ms ops) (covered ms ops (k .1))
+
+      pub cone-run : (ms : List Bool) (ops : List Op) → Covers qs ms ops → Like NearEnd (markedRun w l ms ops s₀) (markedRun w l (markCone qs ops) ops s₀)
+      unfolding markedRun
+      cone-run ms ops k = bind-like (finish w l) (finish w l) (λ s t p. near-finish w (near-limits-refl l) p) (covered ms ops k)
 
   -- ---- two lists of ops
 

@@ -53,7 +53,7 @@ last-few l s false = omega arith
 -- ---- the end
 
 -- the answer, from question 8's
-answered : (b : Bool) (o : Outcome) → cond b (Done (o .mean) (length (o .terms)) (tally (o .peak) (o .discarded))) (Failed 8) ≡ endingOf (ask 8 b (going o))
+answered : (b : Bool) (o : Outcome) → cond b (Done (o .mean) (length (o .terms)) (tally (o .peak) (o .discarded) (o .touched))) (Failed 8) ≡ endingOf (ask 8 b (going o))
 answered true o = refl
 answered false o = refl
 
@@ -95,7 +95,7 @@ module _ (w : ℕ) (l : Limits) (n : ℕ) (t : Tally) {left : Left} {ws ws′ : 
       em ∙ ap (λ (b : Bool). cond b (meanOf w (termsIn (2 * w) (left .count) ws′ cs′)) zero64) room ∙ ap (meanOf w) (L .rows .terms) in
       let all : ok ≡ fine s =
       eo ∙ (λ k. (sym (finite-terms (2 * w) (left .count) ws′ cs′) ∙ ap allFinite (L .rows .terms)) k && isFinite (L .answer k .tally .discarded)) in
-      let o : Outcome = outcome (s .terms) (meanOf w (s .terms)) [] (s .peak) (s .discarded) in
+      let o : Outcome = outcome (s .terms) (meanOf w (s .terms)) [] (s .peak) (s .discarded) (s .touched) in
       record {
         answer = er ∙ (λ k. cond (all k && isFinite (mean k)) (Done (mean k) (L .answer k .count) (L .answer k .tally)) (Failed 8))
             ∙ answered (fine s && isFinite (meanOf w (s .terms))) o;

@@ -7,6 +7,8 @@ pub mod EndLaws
 pub mod StartLaws
 pub mod MarkLaws
 pub mod ActLaws
+pub mod FiniteLaws
+pub mod CountedRuns
 pub mod Alike
 pub mod Cone
 pub mod PartedRuns

@@ -3,7 +3,7 @@
 use mathlib.Core.Path.{_≡_, refl}
 use mathlib.Core.Bool.{Bool, true, false, cond, _&&_}
 use mathlib.Core.List.{List, [], _∷_}
-use Prim.Native.Nat.{ℕ}
+use Prim.Native.Nat.{ℕ, _+_}
 use lib.Dec.{leb}
 use lib.Ieee.{Float, lt}
 use lib.ListN.{length}
@@ -22,7 +22,7 @@ use Rattle.turns.specs.declared.Limits.{Limits}
 use Rattle.turns.specs.declared.Op.{Op}
 use Rattle.turns.specs.declared.Op.the-variants.{Native, T, Tdg, Rz, P, Rzz}
 use Rattle.turns.specs.declared.Op.the-variants.{Pauli, Depol, Damp, Phase, Thermal, Depol2, Barrier}
-use Rattle.turns.specs.Ops.{targets, actOn, onWords, act}
+use Rattle.turns.specs.Ops.{targets, actOn, onWords, act, met}
 use Rattle.turns.specs.Turn.{going, ask, State, state, fine, dropSmall, truncated, counted, checked, settle, Outcome, outcome, lastDrop, ended, finish}
 use Rattle.turns.specs.Runs.{step, runs, markedRun}
 use Rattle.turns.specs.MarkedOps.{Holds}
@@ -92,7 +92,7 @@ module _ (w : ℕ) where
 
   step-halved : (l : Limits) (m : Bool) (op : Op) (s : State) → HalvedState s → Holds HalvedState (step w l m op s)
   step-halved l true op s h =
-      settle-halved l (state (act w op (s .terms)) (s .peak) (s .discarded))
+      settle-halved l (state (act w op (s .terms)) (s .peak) (s .discarded) (s .touched + met w op (s .terms)))
       (λ f. record { wide = act-width w (s .terms) op (h .wide); parted = act-parted op (s .terms) h f })
   step-halved l false op s h = h
 
@@ -107,7 +107,7 @@ module _ (w : ℕ) where
   unfolding finish ended
   finish-halved l s h = go (lastDrop l s) (dropped-if (lt zero64 (l .epsilon)) (l .epsilon) s h) (fine (lastDrop l s) && isFinite (meanOf w (lastDrop l s .terms)))
     where
-      go : (t : State) → HalvedState t → (b : Bool) → Holds HalvedEnd (ask 8 b (going (outcome (t .terms) (meanOf w (t .terms)) [] (t .peak) (t .discarded))))
+      go : (t : State) → HalvedState t → (b : Bool) → Holds HalvedEnd (ask 8 b (going (outcome (t .terms) (meanOf w (t .terms)) [] (t .peak) (t .discarded) (t .touched))))
       go t k true = k
       go t k false = tt
 

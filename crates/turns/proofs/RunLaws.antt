@@ -2,11 +2,11 @@
 use mathlib.Core.Path.{_≡_, refl, sym, ap, ap₂, _∙_, subst, subst⁻¹}
 use mathlib.Core.Bool.{Bool, true, false, cond, _&&_, false≢true}
 use mathlib.Core.List.{List, [], _∷_}
-use Prim.Native.Nat.{ℕ, zero, suc, _-_, _*_, _/_, _≤_, _<_, min}
+use Prim.Native.Nat.{ℕ, zero, suc, _+_, _-_, _*_, _/_, _^_, _≤_, _<_, min}
 use native.Mathlib.Nat.{le-refl}
 use native.Mathlib.Omega.{arith}
 use lib.Dec.{leb}
-use lib.ListN.{length, getD, drop, replicate}
+use lib.ListN.{length, getD, drop, replicate, length-drop}
 use borrow.Author.Tests.{le-leb, leb-true}
 use lib.Seq.{drop-cons}
 use lib.Ieee.{Float}
@@ -31,7 +31,10 @@ use Rattle.turns.specs.declared.Start.{Start}
 use Rattle.turns.specs.Given.{startState, isGiven, isHeld, startedRun}
 use Rattle.turns.specs.Turn.{Stage, refused, going, bind, ask, State, state, Outcome, finish}
 use Rattle.turns.specs.Runs.{step, runs, markedRun}
-use Rattle.turns.specs.Told.{turnedOf, termsOf, stageIn, countOf, endingOf, leftBy, endCount, Ready, Tells, Ends, Ran, Followed}
+use Rattle.turns.specs.Told.{turnedOf, termsOf, stateIn, stageIn, countOf, endingOf, leftBy, endCount, Ready, Slack, Untouched, Tells, Ends, Ran, Followed}
+use Rattle.turns.specs.MarkedOps as D
+use Rattle.turns.proofs.Alike.{holds-imp}
+use Rattle.turns.proofs.CountedRuns.{Counted, runs-counted, run-fits}
 use Rattle.turns.proofs.TurnLaws.{long}
 
 -- ---- stages
@@ -100,7 +103,7 @@ module _ (w : ℕ) (l : Limits) {r : Turned} {ws₀ ws : List ℕ} {cs₀ cs : L
   tells-stage (refused n) T = ap (λ (a : Turned). stageIn w a ws cs) (T .answer)
   tells-stage (going s) T =
       ap (λ (a : Turned). stageIn w a ws cs) (T .answer)
-      ∙ (λ k. going (state ((ap (λ (m : ℕ). termsIn (2 * w) m ws cs) (ap countOf (sym (T .answer))) ∙ T .rows .terms) k) (s .peak) (s .discarded)))
+      ∙ (λ k. going (state ((ap (λ (m : ℕ). termsIn (2 * w) m ws cs) (ap countOf (sym (T .answer))) ∙ T .rows .terms) k) (s .peak) (s .discarded) (s .touched)))
 
   pub tells-ready : (s : Stage State) → 2 * l .limit ≤ rowsIn w ws₀ cs₀ → Tells w l r ws₀ ws cs₀ cs s → Ready w l (countOf r) ws cs
   tells-ready s room T = record {
@@ -117,6 +120,25 @@ module _ (w : ℕ) (l : Limits) {r : Turned} {ws₀ ws : List ℕ} {cs₀ cs : L
     pub ends-then : {q : Ending} (f : State → Stage Outcome) → Ends w l q ws ws′ cs cs′ (bind (stageIn w r ws cs) f) → Ends w l q ws₀ ws′ cs₀ cs′ (bind s f)
     ends-then {q} f E = subst (λ (x : Stage State). Ends w l q ws₀ ws′ cs₀ cs′ (bind x f)) (tells-stage s T)
         (record { answer = E .answer; rows = hold-trans (T .rows) (E .rows); few = E .few })
+
+-- ---- what is met fits 64 bits
+
+-- a state after which one op more is counted
+abbrev Countable : Limits → State → Type 0
+Countable l s = s .touched + l .limit < 2 ^ 64
+
+pub tells-slack : (w : ℕ) (l : Limits) {r : Turned} {ws₀ ws : List ℕ} {cs₀ cs : List Float} (s : Stage State) → Tells w l r ws₀ ws cs₀ cs s → D.Holds (Countable l) s → Slack l r
+tells-slack w l (refused n) T h = subst⁻¹ (Slack l) (T .answer) tt
+tells-slack w l (going s) T h = subst⁻¹ (Slack l) (T .answer) h
+
+pub countable : (w : ℕ) (l : Limits) (ms : List Bool) (ops : List Op) (at : Turned) (ws : List ℕ) (cs : List Float) → Ready w l (countOf at) ws cs → Untouched at
+    → l .limit ≤ 1048576 → length ops ≤ 4096 → (i : ℕ) → D.Holds (Countable l) (bind (stageIn w at ws cs) (runs w l (drop i ms) (drop i ops)))
+countable w l ms ops (Refused n) ws cs ready none low short i = tt
+countable w l ms ops (Going n t) ws cs ready none low short i =
+    let back = drop i ops in
+    holds-imp (Counted l (length back * l .limit + 0)) (Countable l) (runs w l (drop i ms) back (stateIn w n t ws cs))
+    (λ u c. let few : length back ≤ 4096 = omega (arith, length-drop i ops, short) in let m = run-fits (length back) (l .limit) few low in omega (arith, c .met, m, low))
+    (runs-counted w l (drop i ms) back (stateIn w n t ws cs) 0 (record { few = rw (long w n t ws cs) (ready .few); met = omega (arith, none) }))
 
 -- ---- the loop
 

@@ -36,23 +36,23 @@ use Rattle.turns.specs.declared.Start.{Start}
 use Rattle.turns.specs.declared.Start.the-variants.{Lines, Alone, Z}
 use Rattle.turns.specs.Ops.{onWords}
 use Rattle.turns.specs.Turn.{going, state}
-use Rattle.turns.specs.Told.{tally, countOf, Tells}
-use Rattle.turns.specs.Given.{zKey, startState, isGiven}
+use Rattle.turns.specs.Told.{tally, countOf, Untouched, Tells}
+use Rattle.turns.specs.Given.{zKey, startState, isThere, isGiven}
 
 -- ---- the tests
 
 module _ (w limit : ℕ) (keys : List ℕ) (weights : List Float) (start : Start) where
   pub given-lines : (k : ℕ) {n : ℕ} {a r : Bool} → start ≡ Lines k → n ≡ length keys / (2 * w) → a ≡ leb k n && leb k (length weights) → r ≡ leb k limit && a
-      → r ≡ isGiven w limit keys weights start
-  given-lines k e en ea er = er ∙ (λ i. leb k limit && (ea ∙ (λ j. leb k (en j) && leb k (length weights))) i) ∙ ap (isGiven w limit keys weights) (sym e)
+      → r ≡ isThere w limit keys weights start
+  given-lines k e en ea er = er ∙ (λ i. leb k limit && (ea ∙ (λ j. leb k (en j) && leb k (length weights))) i) ∙ ap (isThere w limit keys weights) (sym e)
 
-  pub given-alone : (k : ℕ) {n : ℕ} {r : Bool} → start ≡ Alone k → n ≡ length keys / (2 * w) → r ≡ leb 1 limit && ltb k n → r ≡ isGiven w limit keys weights start
-  given-alone k e en er = er ∙ (λ i. leb 1 limit && ltb k (en i)) ∙ ap (isGiven w limit keys weights) (sym e)
+  pub given-alone : (k : ℕ) {n : ℕ} {r : Bool} → start ≡ Alone k → n ≡ length keys / (2 * w) → r ≡ leb 1 limit && ltb k n → r ≡ isThere w limit keys weights start
+  given-alone k e en er = er ∙ (λ i. leb 1 limit && ltb k (en i)) ∙ ap (isThere w limit keys weights) (sym e)
 
   pub given-z : (q : ℕ) (t : Tally) {a b r : Bool} → start ≡ Z q t → b ≡ onWords w (q ∷ []) → a ≡ leb w 4 && b → r ≡ leb 1 limit && a
-      → r ≡ isGiven w limit keys weights start
+      → r ≡ isThere w limit keys weights start
   unfolding onWords
-  given-z q t e eb ea er = er ∙ (λ i. leb 1 limit && (ea ∙ (λ j. leb w 4 && eb j)) i) ∙ ap (isGiven w limit keys weights) (sym e)
+  given-z q t e eb ea er = er ∙ (λ i. leb 1 limit && (ea ∙ (λ j. leb w 4 && eb j)) i) ∙ ap (isThere w limit keys weights) (sym e)
 
 -- ---- Z at one qubit
 
@@ -122,9 +122,9 @@ module _ (w R : ℕ) (l : Limits) (p : ℕ) (d : Float) {room : Bool} {ts : List
   started-count : r ≡ length ts
   started-count = S .count ∙ ap (λ (b : Bool). cond b (length ts) 0) yes
 
-  started-tells : {out : Turned} → out ≡ Going r (tally p d) → Tells w l out ws ws′ cs cs′ (going (state ts p d))
+  started-tells : {out : Turned} → out ≡ Going r (tally p d 0) → Tells w l out ws ws′ cs cs′ (going (state ts p d 0))
   started-tells {out} e = record {
-    answer = e ∙ ap (λ (n : ℕ). Going n (tally p d)) started-count;
+    answer = e ∙ ap (λ (n : ℕ). Going n (tally p d 0)) started-count;
     rows = subst⁻¹ (λ (o : Turned). Holds (2 * w) (2 * l .limit) (countOf o) ts ws ws′ cs cs′) e
         (hold-wide (omega arith) (step-holds w R R 0 as-step rows-yes (omega arith) few keyed));
     few = le-trans few reach;
@@ -152,8 +152,12 @@ module _ (w : ℕ) (l : Limits) (keys : List ℕ) (weights : List Float) (start 
       → Tells w l out ws ws′ cs cs′ (going (startState w keys weights start))
   told {out} {ws} {ws′} {cs} {cs′} s e T = subst⁻¹ (λ (x : Start). Tells w l out ws ws′ cs cs′ (going (startState w keys weights x))) e T
 
-  given-as : isGiven w (l .limit) keys weights start ≡ true → (s : Start) → start ≡ s → isGiven w (l .limit) keys weights s ≡ true
-  given-as given s e = ap (isGiven w (l .limit) keys weights) (sym e) ∙ given
+  given-as : isGiven w (l .limit) keys weights start ≡ true → (s : Start) → start ≡ s → isThere w (l .limit) keys weights s ≡ true
+  given-as given s e = ap (isThere w (l .limit) keys weights) (sym e) ∙ and-true (leb (l .limit) 1048576) (isThere w (l .limit) keys weights start) given .1
+
+  -- a limit that a sheet may have
+  pub given-low : isGiven w (l .limit) keys weights start ≡ true → l .limit ≤ 1048576
+  given-low given = leb-true (l .limit) 1048576 (and-true (leb (l .limit) 1048576) (isThere w (l .limit) keys weights start) given .0)
 
   pub z-fits : isGiven w (l .limit) keys weights start ≡ true → (q : ℕ) (t : Tally) → start ≡ Z q t → (w ≤ 4) × (q < 64 * w)
   z-fits given q t e =
@@ -162,7 +166,7 @@ module _ (w : ℕ) (l : Limits) (keys : List ℕ) (weights : List Float) (start 
       (leb-true w 4 (z .0), ltb-true q (64 * w) (z .1))
 
   module _ (given : isGiven w (l .limit) keys weights start ≡ true) {out : Turned} {r : ℕ} {ws ws′ : List ℕ} {cs cs′ : List Float} (have : 2 * l .limit ≤ rowsIn w ws cs) where
-    pub lines-tell : (k : ℕ) → start ≡ Lines k → Words keys → out ≡ Going r (tally r zero64)
+    pub lines-tell : (k : ℕ) → start ≡ Lines k → Words keys → out ≡ Going r (tally r zero64 0)
         → Started (leb k (rowsIn w ws cs) && (leb k (length keys / (2 * w)) && leb k (length weights))) w k (merged (linesOf w keys weights k)) r ws ws′ cs cs′
         → Tells w l out ws ws′ cs cs′ (going (startState w keys weights start))
     lines-tell k e ok eo S =
@@ -183,9 +187,9 @@ module _ (w : ℕ) (l : Limits) (keys : List ℕ) (weights : List Float) (start 
         λ j. le-leb k (rowsIn w ws cs) (omega arith) j && p .1 j in
         let count = started-count w k l 0 zero64 S yes fits have few keyed (merged-distinct ts) in
         told (Lines k) e (started-tells w k l (length (merged ts)) zero64 S yes fits have few keyed (merged-distinct ts)
-        (eo ∙ ap (λ (n : ℕ). Going r (tally n zero64)) count))
+        (eo ∙ ap (λ (n : ℕ). Going r (tally n zero64 0)) count))
 
-    pub alone-tells : (i : ℕ) → start ≡ Alone i → out ≡ Going r (tally r zero64)
+    pub alone-tells : (i : ℕ) → start ≡ Alone i → out ≡ Going r (tally r zero64 0)
         → Started (leb 1 (rowsIn w ws cs) && ltb i (length keys / (2 * w))) w 1 (termOf w (keyAt (2 * w) keys i) one64 ∷ []) r ws ws′ cs cs′
         → Tells w l out ws ws′ cs cs′ (going (startState w keys weights start))
     unfolding termOf
@@ -196,14 +200,24 @@ module _ (w : ℕ) (l : Limits) (keys : List ℕ) (weights : List Float) (start 
         let long : Keyed (2 * w) t = length-key (2 * w) keys i (row-fits (length keys) w i (ltb-true i _ (p .1))) in
         let yes : (leb 1 (rowsIn w ws cs) && ltb i (length keys / (2 * w))) ≡ true = λ j. le-leb 1 (rowsIn w ws cs) (omega arith) j && p .1 j in
         let count = started-count w 1 l 0 zero64 S yes fits have (le-refl 1) (long, tt) (one-apart t) in
-        told (Alone i) e (started-tells w 1 l 1 zero64 S yes fits have (le-refl 1) (long, tt) (one-apart t) (eo ∙ ap (λ (n : ℕ). Going r (tally n zero64)) count))
+        told (Alone i) e (started-tells w 1 l 1 zero64 S yes fits have (le-refl 1) (long, tt) (one-apart t) (eo ∙ ap (λ (n : ℕ). Going r (tally n zero64 0)) count))
 
-    pub z-tells : (q : ℕ) (t : Tally) → start ≡ Z q t → out ≡ Going r t → Started (leb 1 (rowsIn w ws cs)) w 1 (termOf w (zKey w q) one64 ∷ []) r ws ws′ cs cs′
+    pub z-tells : (q : ℕ) (t : Tally) {u : Tally} → start ≡ Z q t → out ≡ Going r u → u ≡ tally (t .peak) (t .discarded) 0 → Started (leb 1 (rowsIn w ws cs)) w 1 (termOf w (zKey w q) one64 ∷ []) r ws ws′ cs cs′
         → Tells w l out ws ws′ cs cs′ (going (startState w keys weights start))
     unfolding termOf
-    z-tells q t e eo S =
+    z-tells q t e eo eu S =
         let p = and-true (leb 1 (l .limit)) _ (given-as given (Z q t) e) in
         let fits : 1 ≤ l .limit = leb-true 1 (l .limit) (p .0) in
-        let u : Term = termOf w (zKey w q) one64 in
-        let long : Keyed (2 * w) u = flipAt-length (noLetters w) (zAt w q) ∙ length-replicate (2 * w) 0 in
-        told (Z q t) e (started-tells w 1 l (t .peak) (t .discarded) S (le-leb 1 (rowsIn w ws cs) (omega arith)) fits have (le-refl 1) (long, tt) (one-apart u) eo)
+        let one : Term = termOf w (zKey w q) one64 in
+        let long : Keyed (2 * w) one = flipAt-length (noLetters w) (zAt w q) ∙ length-replicate (2 * w) 0 in
+        told (Z q t) e (started-tells w 1 l (t .peak) (t .discarded) S (le-leb 1 (rowsIn w ws cs) (omega arith)) fits have (le-refl 1) (long, tt) (one-apart one) (eo ∙ ap (λ (v : Tally). Going r v) eu))
+
+-- no op has met a term at a start
+none-met : (w : ℕ) (keys : List ℕ) (weights : List Float) (start : Start) → startState w keys weights start .touched ≡ 0
+none-met w keys weights (Lines k) = refl
+none-met w keys weights (Alone i) = refl
+none-met w keys weights (Z q t) = refl
+
+pub start-untouched : (w : ℕ) (l : Limits) (keys : List ℕ) (weights : List Float) (start : Start) {at : Turned} {ws₀ ws : List ℕ} {cs₀ cs : List Float}
+    → Tells w l at ws₀ ws cs₀ cs (going (startState w keys weights start)) → Untouched at
+start-untouched w l keys weights start T = subst⁻¹ Untouched (T .answer) (none-met w keys weights start)

@@ -1,8 +1,8 @@
 -- What the proofs of one turn use of its definition. Assumes nothing.
-use mathlib.Core.Path.{_≡_, refl, sym, ap, _∙_, subst, subst⁻¹}
+use mathlib.Core.Path.{_≡_, refl, sym, ap, ap₂, _∙_, subst, subst⁻¹}
 use mathlib.Core.Bool.{Bool, true, false, cond, _&&_}
 use mathlib.Core.List.{List, []}
-use Prim.Native.Nat.{ℕ, _*_, _≤_, _<_, max, zero-le}
+use Prim.Native.Nat.{ℕ, _+_, _*_, _^_, _≤_, _<_, max, zero-le}
 use native.Mathlib.Omega.{arith}
 use lib.Dec.{leb, ltb}
 use lib.ListN.{length}
@@ -32,10 +32,11 @@ use Rattle.turns.specs.declared.Tally.{Tally}
 use Rattle.turns.specs.declared.turn.Left.{Left}
 use Rattle.turns.specs.declared.Turned.{Turned}
 use Rattle.turns.specs.declared.Turned.the-variants.{Going, Refused}
-use Rattle.turns.specs.Ops.{act}
+use Rattle.turns.specs.Ops.{act, met}
 use Rattle.turns.specs.Turn.{Stage, refused, going, bind, ask, State, state, fine, dropSmall, truncated, counted, checked, settle}
 use Rattle.turns.specs.Runs.{turn, step}
-use Rattle.turns.specs.Told.{tally, turnedOf, termsOf, stateIn, stageIn, countOf, fineIn, withinOf, CheckedIn, Leaves, Ready, Tells}
+use Rattle.turns.specs.Told.{tally, turnedOf, termsOf, stateIn, stageIn, countOf, fineIn, withinOf, CheckedIn, Leaves, Ready, Slack, Tells}
+use Rattle.turns.proofs.ActLaws.{met-few}
 use Rattle.turns.proofs.ApplyLaws.{act-distinct, act-count, here-width}
 
 -- ---- question 8
@@ -56,7 +57,7 @@ module _ (w n : ℕ) (t : Tally) (ws : List ℕ) (cs : List Float) where
   left-same = record { answer = λ k. record { count = sym long k; tally = t }; rows = hold-start (2 * w) n n ws cs }
 
   pub dropped : (e : Float) {r : Kept} {ws′ : List ℕ} {cs′ : List Float} → n ≤ rowsIn w ws cs → Words ws → Truncated w n e r ws ws′ cs cs′
-      → Leaves w n (record { count = r .count; tally = tally (t .peak) (add binary64 (t .discarded) (r .dropped)) }) ws ws′ cs cs′ (dropSmall e (stateIn w n t ws cs))
+      → Leaves w n (record { count = r .count; tally = tally (t .peak) (add binary64 (t .discarded) (r .dropped)) (t .touched) }) ws ws′ cs cs′ (dropSmall e (stateIn w n t ws cs))
   dropped e {r} {ws′} {cs′} room ok D =
       let yes = le-leb n (rowsIn w ws cs) room in
       let count : length (keptOf e here) ≤ n = let k = kept-count e here in omega (arith, long, k) in
@@ -65,7 +66,7 @@ module _ (w n : ℕ) (t : Tally) (ws : List ℕ) (cs : List Float) where
       let same : r .count ≡ length (keptOf e here) = step-count w n n n (D .step) yes room count keyed in
       let sum : r .dropped ≡ droppedOf e here = D .sum ∙ ap (λ (b : Bool). cond b (droppedOf e here) zero64) yes in
       record {
-        answer = λ k. record { count = same k; tally = tally (t .peak) (add binary64 (t .discarded) (sum k)) };
+        answer = λ k. record { count = same k; tally = tally (t .peak) (add binary64 (t .discarded) (sum k)) (t .touched) };
         rows = step-holds w n n n (D .step) yes room count keyed;
       }
 
@@ -95,23 +96,23 @@ module _ (l : Limits) (n : ℕ) (t : Tally) (cs : List Float) {b : Bool} (q : b 
       s = stateIn w n t ws cs
 
       at : ℕ → Turned
-      at m = cond (leb m (l .limit)) (Going m (tally (max (t .peak) m) (t .discarded))) (Refused 9)
+      at m = cond (leb m (l .limit)) (Going m (tally (max (t .peak) m) (t .discarded) (t .touched))) (Refused 9)
 
       answered : Bool → Turned
       answered x = turnedOf (ask 8 x (ask 9 (leb (length (s .terms)) (l .limit)) (going (counted s))))
 
-      go : (x : Bool) → turnedOf (ask 9 x (going (counted s))) ≡ cond x (Going (length (s .terms)) (tally (max (t .peak) (length (s .terms))) (t .discarded))) (Refused 9)
+      go : (x : Bool) → turnedOf (ask 9 x (going (counted s))) ≡ cond x (Going (length (s .terms)) (tally (max (t .peak) (length (s .terms))) (t .discarded) (t .touched))) (Refused 9)
       go true = refl
       go false = refl
 
 -- the answer of `within`
 pub within-9 : (l : Limits) (n : ℕ) (t : Tally) → l .limit < n → Refused 9 ≡ withinOf l n t
-within-9 l n t h = sym (ap (λ (x : Bool). cond x (Going n (tally (max (t .peak) n) (t .discarded))) (Refused 9)) (lt-leb n (l .limit) h))
+within-9 l n t h = sym (ap (λ (x : Bool). cond x (Going n (tally (max (t .peak) n) (t .discarded) (t .touched))) (Refused 9)) (lt-leb n (l .limit) h))
 
-pub within-on : (l : Limits) (n : ℕ) (t : Tally) {u : Tally} → n ≤ l .limit → (u .peak ≡ max (t .peak) n) × (u .discarded ≡ t .discarded) → Going n u ≡ withinOf l n t
+pub within-on : (l : Limits) (n : ℕ) (t : Tally) {u : Tally} → n ≤ l .limit → (u .peak ≡ max (t .peak) n) × ((u .discarded ≡ t .discarded) × (u .touched ≡ t .touched)) → Going n u ≡ withinOf l n t
 within-on l n t {u} h m =
-    (λ i. Going n (tally (m .0 i) (m .1 i)))
-    ∙ sym (ap (λ (x : Bool). cond x (Going n (tally (max (t .peak) n) (t .discarded))) (Refused 9)) (le-leb n (l .limit) h))
+    (λ i. Going n (tally (m .0 i) (m .1 .0 i) (m .1 .1 i)))
+    ∙ sym (ap (λ (x : Bool). cond x (Going n (tally (max (t .peak) n) (t .discarded) (t .touched))) (Refused 9)) (le-leb n (l .limit) h))
 
 -- ---- what follows an op
 
@@ -179,7 +180,7 @@ module _ (l : Limits) (w n : ℕ) (t : Tally) (ws : List ℕ) (cs : List Float) 
   settled {b} {left} {r} {ws′} {cs′} q e few d L C =
       let s₁ : State = truncated l (stateIn w n t ws cs) in
       let held : Holds (2 * w) n (length (s₁ .terms)) (s₁ .terms) ws ws′ cs cs′ = subst (λ (m : ℕ). Holds (2 * w) n m (s₁ .terms) ws ws′ cs cs′) (ap (λ (x : Left). x .count) (L .answer)) (L .rows) in
-      let same : stateIn w (left .count) (left .tally) ws′ cs′ ≡ s₁ = λ k. state (L .rows .terms k) (L .answer k .tally .peak) (L .answer k .tally .discarded) in
+      let same : stateIn w (left .count) (left .tally) ws′ cs′ ≡ s₁ = λ k. state (L .rows .terms k) (L .answer k .tally .peak) (L .answer k .tally .discarded) (L .answer k .tally .touched) in
       subst⁻¹ (λ (b : Bool). Tells w l r ws ws′ cs cs′ (ask 8 b (checked l s₁))) (sym (fine-in w n t ws cs) ∙ sym q ∙ e)
       (tells-checked l w s₁ (C w ws′ ∙ ap (λ (s : State). turnedOf (checked l s)) same) (hold-wide few held) (truncated-distinct l (stateIn w n t ws cs) d))
 
@@ -197,12 +198,18 @@ module _ (l : Limits) (w n : ℕ) (op : Op) (t : Tally) (ws : List ℕ) (cs : Li
     subst⁻¹ Distinct (H .terms) (act-distinct w (termsIn (2 * w) n ws cs) op (here-width w n ws cs twice ok) (ready .sound)),
   )
 
+  -- an op meets at most limit terms, so there is room to count them
+  pub turn-slack : {k : ℕ} → k ≡ met w op (termsIn (2 * w) n ws cs) → t .touched + l .limit < 2 ^ 64 → t .touched + k < 2 ^ 64
+  turn-slack e h = let f = met-few w op (termsIn (2 * w) n ws cs) in let few = ready .few in omega (arith, e, f, few, h, long w n t ws cs)
+
   -- what follows the op, told of the rows before it
-  pub turn-told : {r : Turned} {ws″ : List ℕ} {cs″ : List Float} → Tells w l r ws′ ws″ cs′ cs″ (settle l (stateIn w m t ws′ cs′))
+  pub turn-told : {k : ℕ} {u : Tally} {r : Turned} {ws″ : List ℕ} {cs″ : List Float} → k ≡ met w op (termsIn (2 * w) n ws cs) → u ≡ tally (t .peak) (t .discarded) (t .touched + k)
+      → Tells w l r ws′ ws″ cs′ cs″ (settle l (stateIn w m u ws′ cs′))
       → Tells w l r ws ws″ cs cs″ (turn w l op (stateIn w n t ws cs))
-  turn-told {r} {ws″} {cs″} T =
+  turn-told {k} {u} {r} {ws″} {cs″} e f T =
       let wide = hold-wide {S = 2 * l .limit} (let h = ready .few in omega arith) H in
-      let same : settle l (stateIn w m t ws′ cs′) ≡ turn w l op (stateIn w n t ws cs) = ap (λ (ts : List Term). settle l (state ts (t .peak) (t .discarded))) (H .terms) in
+      let same : settle l (stateIn w m u ws′ cs′) ≡ turn w l op (stateIn w n t ws cs) = ap (λ (v : Tally). settle l (stateIn w m v ws′ cs′)) f
+      ∙ ap₂ (λ (ts : List Term) (i : ℕ). settle l (state ts (t .peak) (t .discarded) (t .touched + i))) (H .terms) e in
       subst (λ (s : Stage State). Tells w l r ws ws″ cs cs″ s) same
       (record { answer = T .answer; rows = hold-trans wide (T .rows); few = T .few; sound = T .sound })
 
@@ -214,11 +221,14 @@ module _ (l : Limits) (w : ℕ) (mark : Bool) (op : Op) (at : Turned) (ws : List
 
   pub step-refused : (n : ℕ) → at ≡ Refused n → Tells w l (Refused n) ws ws cs cs (after at)
   step-refused n e = subst⁻¹ (λ (a : Turned). Tells w l (Refused n) ws ws cs cs (after a)) e
-      (tells-refused l w (stateIn w 0 (tally 0 zero64) ws cs) n refl refl (emptied (hold-start (2 * w) (2 * l .limit) 0 ws cs)))
+      (tells-refused l w (stateIn w 0 (tally 0 zero64 0) ws cs) n refl refl (emptied (hold-start (2 * w) (2 * l .limit) 0 ws cs)))
 
   module _ (n : ℕ) (t : Tally) (e : at ≡ Going n t) where
     pub step-ready : Ready w l n ws cs
     step-ready = subst (λ (a : Turned). Ready w l (countOf a) ws cs) e ready
+
+    pub step-slack : Slack l at → t .touched + l .limit < 2 ^ 64
+    step-slack h = subst (Slack l) e h
 
     pub step-skipped : mark ≡ false → Tells w l (Going n t) ws ws cs cs (after at)
     step-skipped f = subst⁻¹ (λ (a : Turned). Tells w l (Going n t) ws ws cs cs (after a)) e

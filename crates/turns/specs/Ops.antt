@@ -13,6 +13,7 @@ use Rattle.terms.specs.declared.NoiseChannel.the-variants as N
 use Rattle.terms.specs.Term.{Term, conjugated}
 use Rattle.terms.specs.Rotation.{metBy, partnerBy, rotated}
 use Rattle.terms.specs.Channel.{actionOf, channeled}
+use Rattle.terms.specs.Met.{metTerms}
 use Rattle.turns.specs.declared.Op.{Op}
 use Rattle.turns.specs.declared.Op.the-variants.{Native, T, Tdg, Rz, P, Rzz}
 use Rattle.turns.specs.declared.Op.the-variants.{Pauli, Depol, Damp, Phase, Thermal, Depol2, Barrier}
@@ -100,3 +101,8 @@ onWords w (a ∷ b ∷ qs) = ltb a (64 * w) && (ltb b (64 * w) && not (eqb a b))
 -- an op whose targets the words do not have does nothing
 unfoldable pub act : ℕ → Op → List Term → List Term
 act w op ts = cond (onWords w (targets op)) (actOn w op ts) ts
+
+-- "how many terms, before it acted, had a letter on at least one of its targets". An op whose targets the words do not have meets nothing; "A
+-- barrier counts 0", since it has no target.
+unfoldable pub met : ℕ → Op → List Term → ℕ
+met w op ts = cond (onWords w (targets op)) (metTerms w (targets op) ts) 0

@@ -1,5 +1,5 @@
 -- One turn, a run over any marks, and the marks of the runs.
-use Prim.Native.Nat.{ℕ}
+use Prim.Native.Nat.{ℕ, _+_}
 use mathlib.Core.Bool.{Bool, true, false, not, _||_, cond}
 use mathlib.Core.List.{List, [], _∷_, _++_, map}
 use lib.Dec.{eqb}
@@ -8,12 +8,12 @@ use Rattle.numbers.specs.Constants.{zero64}
 use Rattle.terms.specs.Term.{Term}
 use Rattle.turns.specs.declared.Limits.{Limits}
 use Rattle.turns.specs.declared.Op.{Op}
-use Rattle.turns.specs.Ops.{shapeOf, targets, isBarrier, act}
+use Rattle.turns.specs.Ops.{shapeOf, targets, isBarrier, act, met}
 use Rattle.turns.specs.Turn.{Stage, going, bind, State, state, settle, Outcome, finish}
 
--- ---- one turn, and a run
+-- ---- one turn, and a run: "Each gate, rotation and channel step reports how many terms, before it acted, had a letter on at least one of its targets"
 abbrev pub turn : ℕ → Limits → Op → State → Stage State
-turn w l op s = settle l (state (act w op (s .terms)) (s .peak) (s .discarded))
+turn w l op s = settle l (state (act w op (s .terms)) (s .peak) (s .discarded) (s .touched + met w op (s .terms)))
 
 -- "Unmarked ops are skipped"
 abbrev pub step : ℕ → Limits → Bool → Op → State → Stage State
@@ -33,7 +33,7 @@ markedRun w l ms ops s = bind (runs w l ms ops s) (finish w l)
 
 -- "peak_terms: the largest of the start count .."
 abbrev pub begin : List Term → State
-begin ts = state ts (length ts) zero64
+begin ts = state ts (length ts) zero64 0
 
 -- ---- marks
 -- `full` and `all`: every op

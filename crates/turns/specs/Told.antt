@@ -2,12 +2,14 @@
 use mathlib.Core.Path.{_≡_}
 use mathlib.Core.Bool.{Bool, true, false, cond, _&&_}
 use mathlib.Core.List.{List, []}
-use Prim.Native.Nat.{ℕ, _*_, _≤_, max}
+use Prim.Native.Nat.{ℕ, _+_, _*_, _^_, _≤_, _<_, max}
 use lib.Dec.{leb}
 use lib.ListN.{length, replicate}
 use lib.Ieee.{Float}
 use Rattle.terms.specs.Term.{Term, Distinct}
 use Rattle.numbers.specs.Tests.{isFinite}
+use Rattle.terms.specs.Met.{metTerms}
+use Rattle.rows.specs.declared.Step.{Step}
 use Rattle.rows.specs.Rows.{termsIn, rowsIn, wordsWith, coeffsWith, Holds}
 use Rattle.sums.specs.Steps.{finiteRows}
 use Rattle.turns.specs.declared.turn.Left.{Left}
@@ -22,16 +24,16 @@ use Rattle.turns.specs.Turn.{Stage, refused, going, State, state, checke
 
 -- ---- "a definition gives this paper's number and values for each case": the answers that stand for a stage
 
-abbrev pub tally : ℕ → Float → Tally
-tally p d = record { peak = p; discarded = d }
+abbrev pub tally : ℕ → Float → ℕ → Tally
+tally p d n = record { peak = p; discarded = d; touched = n }
 
 abbrev pub turnedOf : Stage State → Turned
 turnedOf (refused n) = Refused n
-turnedOf (going s) = Going (length (s .terms)) (tally (s .peak) (s .discarded))
+turnedOf (going s) = Going (length (s .terms)) (tally (s .peak) (s .discarded) (s .touched))
 
 abbrev pub endingOf : Stage Outcome → Ending
 endingOf (refused n) = Failed n
-endingOf (going o) = Done (o .mean) (length (o .terms)) (tally (o .peak) (o .discarded))
+endingOf (going o) = Done (o .mean) (length (o .terms)) (tally (o .peak) (o .discarded) (o .touched))
 
 -- the terms that a stage has; a refused run has none
 abbrev pub termsOf : Stage State → List Term
@@ -49,7 +51,7 @@ endCount (Done m n t) = n
 -- ---- the rows
 
 abbrev pub stateIn : ℕ → ℕ → Tally → List ℕ → List Float → State
-stateIn w n t ws cs = state (termsIn (2 * w) n ws cs) (t .peak) (t .discarded)
+stateIn w n t ws cs = state (termsIn (2 * w) n ws cs) (t .peak) (t .discarded) (t .touched)
 
 abbrev pub countOf : Turned → ℕ
 countOf (Refused n) = 0
@@ -64,6 +66,16 @@ pub record Ready (w : ℕ) (l : Limits) (n : ℕ) (ws : List ℕ) (cs : List Flo
   pub few : n ≤ l .limit
   pub room : 2 * l .limit ≤ rowsIn w ws cs
   pub sound : Distinct (termsIn (2 * w) n ws cs)
+
+-- what one op more can meet fits 64 bits
+abbrev pub Slack : Limits → Turned → Type 0
+Slack l (Refused n) = Unit {0}
+Slack l (Going n t) = t .touched + l .limit < 2 ^ 64
+
+-- no op has met a term yet
+abbrev pub Untouched : Turned → Type 0
+Untouched (Refused n) = Unit {0}
+Untouched (Going n t) = t .touched ≡ 0
 
 -- the answer r and the rows tell of a stage; past the first 2 * limit rows all is as it was
 pub record Tells (w : ℕ) (l : Limits) (r : Turned) (ws₀ ws : List ℕ) (cs₀ cs : List Float) (s : Stage State) : Type 0 where
@@ -80,7 +92,7 @@ pub record Ends (w : ℕ) (l : Limits) (r : Ending) (ws₀ ws : List ℕ) (cs₀
 
 -- the rows after a drop, and its answer, hold the state s; past the first R rows all is as it was
 pub record Leaves (w R : ℕ) (r : Left) (ws₀ ws : List ℕ) (cs₀ cs : List Float) (s : State) : Type 0 where
-  pub answer : r ≡ record { count = length (s .terms); tally = tally (s .peak) (s .discarded) }
+  pub answer : r ≡ record { count = length (s .terms); tally = tally (s .peak) (s .discarded) (s .touched) }
   pub rows : Holds (2 * w) R (r .count) (s .terms) ws₀ ws cs₀ cs
 
 -- question 8, of the first n coefficients and a discarded weight
@@ -89,7 +101,7 @@ fineIn n t cs = finiteRows n cs && isFinite (t .discarded)
 
 -- question 9, and the peak
 abbrev pub withinOf : Limits → ℕ → Tally → Turned
-withinOf l n t = cond (leb n (l .limit)) (Going n (tally (max (t .peak) n) (t .discarded))) (Refused 9)
+withinOf l n t = cond (leb n (l .limit)) (Going n (tally (max (t .peak) n) (t .discarded) (t .touched))) (Refused 9)
 
 -- questions 8 and 9 read no words
 abbrev pub CheckedIn : Limits → ℕ → Tally → List Float → Turned → Type 0
@@ -111,6 +123,7 @@ pub record Followed (w : ℕ) (held : Bool) (run : Stage Outcome) (r : Ending) (
   pub rows : held ≡ true → Holds (2 * w) (rowsIn w ws cs) (length (leftBy run)) (leftBy run) ws ws′ cs cs′
   pub untouched : held ≡ false → (ws′ ≡ ws) × ((cs′ ≡ cs) × (ix′ ≡ ix))
 
--- r terms in at most 2 * n rows, where the words have the targets qs: what an op makes of them; else all as it was
-abbrev pub Applied : ℕ → ℕ → List ℕ → List Term → ℕ → List ℕ → List ℕ → List Float → List Float → Type 0
-Applied w n qs ts r ws ws′ cs cs′ = Holds (2 * w) (2 * n) r (cond (onWords w qs) ts (termsIn (2 * w) n ws cs)) ws ws′ cs cs′
+-- the terms in at most 2 * n rows, where the words have the targets qs: what an op makes of them, and how many it met; else all as it was
+abbrev pub Applied : ℕ → ℕ → List ℕ → List Term → Step → List ℕ → List ℕ → List Float → List Float → Type 0
+Applied w n qs ts r ws ws′ cs cs′ =
+    (r .met ≡ cond (onWords w qs) (metTerms w qs (termsIn (2 * w) n ws cs)) 0) × Holds (2 * w) (2 * n) (r .count) (cond (onWords w qs) ts (termsIn (2 * w) n ws cs)) ws ws′ cs cs′

@@ -27,14 +27,15 @@ abbrev pub ask : {S : Type 0} → ℕ → Bool → Stage S → Stage S
 ask n true r = r
 ask n false r = refused n
 
--- the terms, and the tally of peak and discarded weight
+-- the terms, and the tally of peak, discarded weight and the terms met so far
 pub record State : Type 0 where
   pub terms : List Term
   pub peak : ℕ
   pub discarded : Float
+  pub touched : ℕ
 
-abbrev pub state : List Term → ℕ → Float → State
-state ts p d = record { terms = ts; peak = p; discarded = d }
+abbrev pub state : List Term → ℕ → Float → ℕ → State
+state ts p d n = record { terms = ts; peak = p; discarded = d; touched = n }
 
 -- question 8: "Is every coefficient .., sum .. finite?" The sum is the discarded weight. The mean is asked at the end of a run (`ended`).
 abbrev pub fine : State → Bool
@@ -42,7 +43,7 @@ fine s = allFinite (s .terms) && isFinite (s .discarded)
 
 -- "then added to the discarded weight"
 abbrev pub dropSmall : Float → State → State
-dropSmall e s = state (keptOf e (s .terms)) (s .peak) (add binary64 (s .discarded) (droppedOf e (s .terms)))
+dropSmall e s = state (keptOf e (s .terms)) (s .peak) (add binary64 (s .discarded) (droppedOf e (s .terms))) (s .touched)
 
 -- "Truncation: if max_terms > 0 and there are more terms than that"
 abbrev pub truncated : Limits → State → State
@@ -50,7 +51,7 @@ truncated l s = cond (crowded (l .«max_terms») (s .terms)) (dropSmall (l .epsi
 
 -- "peak_terms: the largest of .. the counts after each op's truncation"
 abbrev pub counted : State → State
-counted s = state (s .terms) (max (s .peak) (length (s .terms))) (s .discarded)
+counted s = state (s .terms) (max (s .peak) (length (s .terms))) (s .discarded) (s .touched)
 
 -- question 8, then 9: "After an op and its truncation, are there at most limit terms?"
 unfoldable pub checked : Limits → State → Stage State
@@ -62,16 +63,18 @@ unfolding checked
 settle l s = ask 8 (fine s) (checked l (truncated l s))
 
 -- ---- the end of a run
--- what a run gives: its final terms, its mean (for `all` its means), its peak and its discarded weight
+-- what a run gives: its final terms, its mean (for `all` its means), its peak, its discarded weight, and the terms that its ops met:
+-- "the result gains `touched`, the sum over a run"
 pub record Outcome : Type 0 where
   pub terms : List Term
   pub mean : Float
   pub means : List Float
   pub peak : ℕ
   pub discarded : Float
+  pub touched : ℕ
 
-abbrev pub outcome : List Term → Float → List Float → ℕ → Float → Outcome
-outcome ts m ms p d = record { terms = ts; mean = m; means = ms; peak = p; discarded = d }
+abbrev pub outcome : List Term → Float → List Float → ℕ → Float → ℕ → Outcome
+outcome ts m ms p d n = record { terms = ts; mean = m; means = ms; peak = p; discarded = d; touched = n }
 
 -- "At the end of a run, even one without ops, the same drop is done if epsilon > 0"
 abbrev pub lastDrop : Limits → State → State
@@ -81,7 +84,7 @@ lastDrop l s = cond (lt zero64 (l .epsilon)) (dropSmall (l .epsilon) s) s
 unfoldable pub ended : ℕ → State → Stage Outcome
 ended w s =
     let m = meanOf w (s .terms) in
-    ask 8 (fine s && isFinite m) (going (outcome (s .terms) m [] (s .peak) (s .discarded)))
+    ask 8 (fine s && isFinite m) (going (outcome (s .terms) m [] (s .peak) (s .discarded) (s .touched)))
 
 unfoldable pub finish : ℕ → Limits → State → Stage Outcome
 unfolding ended

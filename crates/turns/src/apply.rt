@@ -7,13 +7,17 @@ ghost use Rattle.numbers.specs.Constants.{sineT, cosineT};
 ghost use Rattle.words.specs.Gates.{hasTwoTargets};
 ghost use Rattle.terms.specs.declared.Axis.the-variants.{Z, Zz};
 ghost use Rattle.terms.specs.Term.{Distinct, conjugated};
+ghost use Rattle.terms.specs.Channel.{actionOf};
+ghost use Rattle.terms.specs.declared.ChannelKind.the-variants.{Local, Depolarizing2q};
 ghost use Rattle.rows.specs.Rows.{termsIn, rowsIn, Holds};
-ghost use Rattle.turns.specs.Ops.{turned, noisy, act};
+ghost use Rattle.turns.specs.Ops.{turned, noisy, act, met};
 ghost use Rattle.turns.specs.Told.{Applied};
 use crate::Op;
 use crate::targets;
+use rows::Step;
 use terms::NoiseChannel as Noise;
 use words::Gate;
+use words::gates::has_two_targets;
 
 // A native gate.
 fn apply_gate(
@@ -24,15 +28,16 @@ fn apply_gate(
     gate: Gate,
     a: usize,
     b: usize,
-) -> usize
+) -> Step
     requires { ⌜ (2 * n ≤ rowsIn w (now words) (now coeffs)) × Distinct (termsIn (2 * w) n (now words) (now coeffs)) ⌝ }
     ensures { λ r. ⌜ Applied w n (cond (hasTwoTargets gate) (a ∷ b ∷ []) (a ∷ [])) (map (conjugated w gate a b) (termsIn (2 * w) n (now (words .entry)) (now (coeffs .entry)))) r
         (now (words .entry)) (now (words .exit)) (now (coeffs .entry)) (now (coeffs .exit)) ⌝ }
 {
-    if targets::has_targets(targets::has_two_targets(gate), w, a, b) {
-        sums::gates::conjugate_all_backward_phased(words, coeffs, w, n, gate, a, b);
+    if targets::has_targets(has_two_targets(gate), w, a, b) {
+        let met = sums::gates::conjugate_all_backward_phased(words, coeffs, w, n, gate, a, b);
+        return Step { count: n, met };
     }
-    n
+    Step { count: n, met: 0 }
 }
 
 // t, tdg, rz and p.
@@ -45,7 +50,7 @@ fn apply_z(
     q: usize,
     sin: f64,
     cos: f64,
-) -> usize
+) -> Step
     requires { ⌜ (2 * n ≤ rowsIn w (now words) (now coeffs)) × Distinct (termsIn (2 * w) n (now words) (now coeffs)) ⌝ }
     ensures { λ r. ⌜ Applied w n (q ∷ []) (turned w (Z q) sin cos (termsIn (2 * w) n (now (words .entry)) (now (coeffs .entry)))) r
         (now (words .entry)) (now (words .exit)) (now (coeffs .entry)) (now (coeffs .exit)) ⌝ }
@@ -53,7 +58,7 @@ fn apply_z(
     if targets::has_qubit(w, q) {
         return branches::rotation::branch_z_rotation(words, coeffs, index, w, n, q, sin, cos);
     }
-    n
+    Step { count: n, met: 0 }
 }
 
 // rzz.
@@ -67,7 +72,7 @@ fn apply_zz(
     b: usize,
     sin: f64,
     cos: f64,
-) -> usize
+) -> Step
     requires { ⌜ (2 * n ≤ rowsIn w (now words) (now coeffs)) × Distinct (termsIn (2 * w) n (now words) (now coeffs)) ⌝ }
     ensures { λ r. ⌜ Applied w n (a ∷ b ∷ []) (turned w (Zz a b) sin cos (termsIn (2 * w) n (now (words .entry)) (now (coeffs .entry)))) r
         (now (words .entry)) (now (words .exit)) (now (coeffs .entry)) (now (coeffs .exit)) ⌝ }
@@ -75,7 +80,7 @@ fn apply_zz(
     if targets::has_pair(w, a, b) {
         return branches::rotation::branch_zz_rotation(words, coeffs, index, w, n, a, b, sin, cos);
     }
-    n
+    Step { count: n, met: 0 }
 }
 
 // A channel at one target.
@@ -87,8 +92,8 @@ fn apply_channel(
     n: usize,
     q: usize,
     channel: Noise,
-) -> usize
-    requires { ⌜ (2 * n ≤ rowsIn w (now words) (now coeffs)) × Distinct (termsIn (2 * w) n (now words) (now coeffs)) ⌝ }
+) -> Step
+    requires { ⌜ (2 * n ≤ rowsIn w (now words) (now coeffs)) × Distinct (termsIn (2 * w) n (now words) (now coeffs)) × (actionOf channel .kind ≡ Local) ⌝ }
     ensures { λ r. ⌜ Applied w n (q ∷ []) (noisy w q 0 channel (termsIn (2 * w) n (now (words .entry)) (now (coeffs .entry)))) r
         (now (words .entry)) (now (words .exit)) (now (coeffs .entry)) (now (coeffs .exit)) ⌝ }
 {
@@ -96,7 +101,7 @@ fn apply_channel(
         let action = terms::channels::channel_action(channel);
         return branches::channels::apply_backward_channel(words, coeffs, index, w, n, action, q, 0);
     }
-    n
+    Step { count: n, met: 0 }
 }
 
 // A channel at two targets.
@@ -109,8 +114,8 @@ fn apply_channel2(
     a: usize,
     b: usize,
     channel: Noise,
-) -> usize
-    requires { ⌜ (2 * n ≤ rowsIn w (now words) (now coeffs)) × Distinct (termsIn (2 * w) n (now words) (now coeffs)) ⌝ }
+) -> Step
+    requires { ⌜ (2 * n ≤ rowsIn w (now words) (now coeffs)) × Distinct (termsIn (2 * w) n (now words) (now coeffs)) × (actionOf channel .kind ≡ Depolarizing2q) ⌝ }
     ensures { λ r. ⌜ Applied w n (a ∷ b ∷ []) (noisy w a b channel (termsIn (2 * w) n (now (words .entry)) (now (coeffs .entry)))) r
         (now (words .entry)) (now (words .exit)) (now (coeffs .entry)) (now (coeffs .exit)) ⌝ }
 {
@@ -118,7 +123,7 @@ fn apply_channel2(
         let action = terms::channels::channel_action(channel);
         return branches::channels::apply_backward_channel(words, coeffs, index, w, n, action, a, b);
     }
-    n
+    Step { count: n, met: 0 }
 }
 
 // t's sine and cosine, by their bits.
@@ -134,7 +139,7 @@ fn cosine_t() -> f64
     numbers::bits::of_bits(0x3fe6_a09e_667f_3bcd)
 }
 
-// The first n terms through one op. The answer is the number of terms.
+// The first n terms through one op. The answer is the number of terms, and how many the op met.
 pub(crate) fn apply_backward(
     op: Op,
     words: &mut [u64],
@@ -142,9 +147,10 @@ pub(crate) fn apply_backward(
     index: &mut [u32],
     w: usize,
     n: usize,
-) -> usize
+) -> Step
     requires { ⌜ (2 * n ≤ rowsIn w (now words) (now coeffs)) × Distinct (termsIn (2 * w) n (now words) (now coeffs)) ⌝ }
-    ensures { λ r. ⌜ Holds (2 * w) (2 * n) r (act w op (termsIn (2 * w) n (now (words .entry)) (now (coeffs .entry))))
+    ensures { λ r. ⌜ (r .met ≡ met w op (termsIn (2 * w) n (now (words .entry)) (now (coeffs .entry))))
+        × Holds (2 * w) (2 * n) (r .count) (act w op (termsIn (2 * w) n (now (words .entry)) (now (coeffs .entry))))
         (now (words .entry)) (now (words .exit)) (now (coeffs .entry)) (now (coeffs .exit)) ⌝ }
 {
     match op {
@@ -185,6 +191,6 @@ pub(crate) fn apply_backward(
             b,
             Noise::TwoQubitDepolarizing(p),
         ),
-        Op::Barrier => n,
+        Op::Barrier => Step { count: n, met: 0 },
     }
 }

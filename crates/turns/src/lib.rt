@@ -26,10 +26,11 @@ pub struct Limits {
     pub limit: usize,
 }
 
-// The greatest number of terms so far, and the discarded weight.
+// The greatest number of terms so far, the discarded weight, and how many terms the ops met, summed.
 pub struct Tally {
     pub peak: usize,
     pub discarded: f64,
+    pub touched: usize,
 }
 
 // How far a run has come: the number of terms and the tally, or the number of the question that refused it.
@@ -44,8 +45,8 @@ pub enum Ending {
     Failed(u8),
 }
 
-// What a run starts from, in a table of keys and weights: its first lines merged, one line alone at weight 1, or Z at one qubit, whose tally
-// goes on from an earlier run's.
+// What a run starts from, in a table of keys and weights: its first lines merged, one line alone at weight 1, or Z at one qubit, whose peak
+// and discarded weight go on from an earlier run's. Each counts from 0 the terms that its ops meet.
 pub enum Start {
     Lines(usize),
     Alone(usize),

@@ -12,6 +12,7 @@ use crate::Op;
 use crate::oplist::op_at;
 use crate::oplist::op_count;
 use crate::targets;
+use words::gates::has_two_targets;
 use words::keys::get_bit;
 
 // The targets of an op: none, one or two.
@@ -136,7 +137,7 @@ pub fn targets_of(op: Op) -> Targets
     ensures { λ r. ⌜ r ≡ packed (targets op) ⌝ }
 {
     match op {
-        Op::Native(gate, a, b) => one_or_two(targets::has_two_targets(gate), a, b),
+        Op::Native(gate, a, b) => one_or_two(has_two_targets(gate), a, b),
         Op::T(q) => Targets::One(q),
         Op::Tdg(q) => Targets::One(q),
         Op::Rz(q, _, _) => Targets::One(q),

@@ -10,16 +10,16 @@ pub fn larger(a: usize, b: usize) -> usize
     if a <= b { b } else { a }
 }
 
-// Takes a count of terms into the peak. The discarded weight stays.
+// Takes a count of terms into the peak. All else stays.
 pub fn note_count(tally: &mut Tally, n: usize)
-    ensures { λ _. ⌜ (now (tally .exit) .peak ≡ max (now (tally .entry) .peak) n) × (now (tally .exit) .discarded ≡ now (tally .entry) .discarded) ⌝ }
+    ensures { λ _. ⌜ (now (tally .exit) .peak ≡ max (now (tally .entry) .peak) n) × ((now (tally .exit) .discarded ≡ now (tally .entry) .discarded) × (now (tally .exit) .touched ≡ now (tally .entry) .touched)) ⌝ }
 {
     tally.peak = larger(tally.peak, n);
 }
 
 // The tally with a count of terms taken into its peak.
 pub fn counted(tally: Tally, n: usize) -> Tally
-    ensures { λ r. ⌜ (r .peak ≡ max (tally .peak) n) × (r .discarded ≡ tally .discarded) ⌝ }
+    ensures { λ r. ⌜ (r .peak ≡ max (tally .peak) n) × ((r .discarded ≡ tally .discarded) × (r .touched ≡ tally .touched)) ⌝ }
 {
     let mut t = tally;
     note_count(&mut t, n);

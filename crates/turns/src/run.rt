@@ -7,7 +7,7 @@ ghost use Prim.Native.Nat.{_*_, _≤_};
 ghost use mathlib.Core.Bool.{true};
 ghost use Rattle.turns.specs.Runs.{runs, markedRun};
 ghost use Rattle.turns.specs.Given.{startState, isGiven, isHeld, startedRun};
-ghost use Rattle.turns.specs.Told.{stageIn, countOf, endCount, Ready, Tells, Ends, Ran, Followed};
+ghost use Rattle.turns.specs.Told.{stageIn, countOf, endCount, Untouched, Ready, Tells, Ends, Ran, Followed};
 use crate::Ending;
 use crate::Limits;
 use crate::Start;
@@ -34,7 +34,7 @@ fn run_rows(
     w: usize,
     start: Turned,
 ) -> Turned
-    requires { ⌜ Ready w limits (countOf start) (now words) (now coeffs) ⌝ }
+    requires { ⌜ Ready w limits (countOf start) (now words) (now coeffs) × (Untouched start × (limits .limit ≤ 1048576)) ⌝ }
     ensures { λ r. ⌜ Tells w limits r (now (words .entry)) (now (words .exit)) (now (coeffs .entry)) (now (coeffs .exit))
         (bind (stageIn w start (now (words .entry)) (now (coeffs .entry))) (runs w limits (now (marks .entry)) (opList n (now (codes .entry)) (now (reals .entry))))) ⌝ }
 {

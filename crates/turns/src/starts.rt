@@ -10,7 +10,7 @@ ghost use Rattle.rows.specs.Rows.{rowsIn};
 ghost use Rattle.branches.specs.Started.{Started};
 ghost use Rattle.turns.specs.Turn.{going};
 ghost use Rattle.turns.specs.Told.{tally, Tells};
-ghost use Rattle.turns.specs.Given.{zKey, startState, isGiven};
+ghost use Rattle.turns.specs.Given.{zKey, startState, isThere, isGiven};
 use crate::Limits;
 use crate::Start;
 use crate::Tally;
@@ -24,14 +24,8 @@ fn both(a: bool, b: bool) -> bool
 }
 
 // Whether the table has the lines, or the words the qubit, and the limit is not below the number of terms.
-pub(crate) fn is_given(
-    start: Start,
-    limits: Limits,
-    w: usize,
-    keys: &[u64],
-    weights: &[f64],
-) -> bool
-    ensures { λ r. ⌜ r ≡ isGiven w (limits .limit) (now (keys .entry)) (now (weights .entry)) start ⌝ }
+fn is_there(start: Start, limits: Limits, w: usize, keys: &[u64], weights: &[f64]) -> bool
+    ensures { λ r. ⌜ r ≡ isThere w (limits .limit) (now (keys .entry)) (now (weights .entry)) start ⌝ }
 {
     let limit = limits.limit;
     let lines = words::rows::rows_of(keys.len(), w);
@@ -42,15 +36,43 @@ pub(crate) fn is_given(
     }
 }
 
+// The same, and the limit is one that a sheet may have.
+pub(crate) fn is_given(
+    start: Start,
+    limits: Limits,
+    w: usize,
+    keys: &[u64],
+    weights: &[f64],
+) -> bool
+    ensures { λ r. ⌜ r ≡ isGiven w (limits .limit) (now (keys .entry)) (now (weights .entry)) start ⌝ }
+{
+    both(
+        limits.limit <= 1048576,
+        is_there(start, limits, w, keys, weights),
+    )
+}
+
+// The tally of an earlier run, for a run whose ops have met nothing yet.
+fn untouched(t: Tally) -> Tally
+    ensures { λ r. ⌜ r ≡ tally (t .peak) (t .discarded) 0 ⌝ }
+{
+    Tally {
+        peak: t.peak,
+        discarded: t.discarded,
+        touched: 0,
+    }
+}
+
 // A run with n terms, before its first op.
 fn begun(n: usize) -> Turned
-    ensures { λ r. ⌜ r ≡ Turned.Going n (tally n zero64) ⌝ }
+    ensures { λ r. ⌜ r ≡ Turned.Going n (tally n zero64 0) ⌝ }
 {
     Turned::Going(
         n,
         Tally {
             peak: n,
             discarded: 0.0,
+            touched: 0,
         },
     )
 }
@@ -91,6 +113,6 @@ pub(crate) fn start_rows(
             k,
         )),
         Start::Alone(i) => begun(branches::start::single_term(words, coeffs, w, keys, i, 1.0)),
-        Start::Z(q, t) => Turned::Going(start_z(words, coeffs, w, q), t),
+        Start::Z(q, t) => Turned::Going(start_z(words, coeffs, w, q), untouched(t)),
     }
 }

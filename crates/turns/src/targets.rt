@@ -2,28 +2,7 @@
 ghost use mathlib.Core.Path.{_≡_};
 ghost use mathlib.Core.Bool.{cond};
 ghost use mathlib.Core.List.{[], _∷_};
-ghost use Rattle.words.specs.Gates.{hasTwoTargets};
 ghost use Rattle.turns.specs.Ops.{onWords};
-use words::Gate;
-
-pub(crate) fn has_two_targets(gate: Gate) -> bool
-    ensures { λ r. ⌜ r ≡ hasTwoTargets gate ⌝ }
-{
-    match gate {
-        Gate::Cx => true,
-        Gate::Cz => true,
-        Gate::Swap => true,
-        Gate::Id => false,
-        Gate::X => false,
-        Gate::Y => false,
-        Gate::Z => false,
-        Gate::H => false,
-        Gate::S => false,
-        Gate::Sdg => false,
-        Gate::Sx => false,
-        Gate::Sxdg => false,
-    }
-}
 
 pub(crate) fn has_qubit(w: usize, q: usize) -> bool
     ensures { λ r. ⌜ r ≡ onWords w (q ∷ []) ⌝ }

@@ -1,13 +1,13 @@
 // One turn of a run: an op, and what follows it.
 ghost use mathlib.Core.Path.{_≡_};
 ghost use mathlib.Core.Bool.{_&&_};
-ghost use Prim.Native.Nat.{_*_, _≤_};
+ghost use Prim.Native.Nat.{_+_, _*_, _^_, _≤_, _<_};
 ghost use lib.Dec.{ltb};
 ghost use Rattle.terms.specs.Term.{Distinct};
 ghost use Rattle.rows.specs.Rows.{termsIn, rowsIn};
 ghost use Rattle.turns.specs.Turn.{bind, dropSmall, settle};
 ghost use Rattle.turns.specs.Runs.{turn, step};
-ghost use Rattle.turns.specs.Told.{stateIn, stageIn, countOf, fineIn, withinOf, CheckedIn, Leaves, Ready, Tells};
+ghost use Rattle.turns.specs.Told.{tally, Slack, stateIn, stageIn, countOf, fineIn, withinOf, CheckedIn, Leaves, Ready, Tells};
 use crate::Limits;
 use crate::Op;
 use crate::Tally;
@@ -48,6 +48,7 @@ pub(crate) fn drop_small(
         tally: Tally {
             peak: tally.peak,
             discarded: tally.discarded + kept.dropped,
+            touched: tally.touched,
         },
     }
 }
@@ -104,6 +105,18 @@ fn settle(
     checked(limits, coeffs, left.count, left.tally)
 }
 
+// The tally with the terms that one op met.
+fn met_more(t: Tally, met: usize) -> Tally
+    requires { ⌜ t .touched + met < 2 ^ 64 ⌝ }
+    ensures { λ r. ⌜ r ≡ tally (t .peak) (t .discarded) (t .touched + met) ⌝ }
+{
+    Tally {
+        peak: t.peak,
+        discarded: t.discarded,
+        touched: t.touched + met,
+    }
+}
+
 // One op, and what follows it.
 fn turn(
     op: Op,
@@ -115,11 +128,13 @@ fn turn(
     n: usize,
     tally: Tally,
 ) -> Turned
-    requires { ⌜ Ready w limits n (now words) (now coeffs) ⌝ }
+    requires { ⌜ Ready w limits n (now words) (now coeffs) × (tally .touched + limits .limit < 2 ^ 64) ⌝ }
     ensures { λ r. ⌜ Tells w limits r (now (words .entry)) (now (words .exit)) (now (coeffs .entry)) (now (coeffs .exit)) (turn w limits op (stateIn w n tally (now (words .entry)) (now (coeffs .entry)))) ⌝ }
 {
-    let m = apply::apply_backward(op, words, coeffs, index, w, n);
-    settle(limits, words, coeffs, w, m, tally)
+    let step = apply::apply_backward(op, words, coeffs, index, w, n);
+    let m = step.count;
+    let t = met_more(tally, step.met);
+    settle(limits, words, coeffs, w, m, t)
 }
 
 // The turn of one op, which is skipped without a mark and after a refusal.
@@ -133,7 +148,7 @@ pub(crate) fn step(
     w: usize,
     at: Turned,
 ) -> Turned
-    requires { ⌜ Ready w limits (countOf at) (now words) (now coeffs) ⌝ }
+    requires { ⌜ Ready w limits (countOf at) (now words) (now coeffs) × Slack limits at ⌝ }
     ensures { λ r. ⌜ Tells w limits r (now (words .entry)) (now (words .exit)) (now (coeffs .entry)) (now (coeffs .exit)) (bind (stageIn w at (now (words .entry)) (now (coeffs .entry))) (step w limits mark op)) ⌝ }
 {
     match at {

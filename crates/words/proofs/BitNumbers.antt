@@ -1,10 +1,10 @@
 -- Bits as the numbers 0 and 1: what the code computes of them. Assumes nothing.
 use Prim.Native.Nat.{ℕ, zero, suc, _*_, _%_, _≤_, _<_}
 use mathlib.Core.Path.{_≡_, refl, ap, ap₂, _∙_}
-use mathlib.Core.Bool.{Bool, true, false, cond, _&&_}
+use mathlib.Core.Bool.{Bool, true, false, cond, _&&_, _||_}
 use native.Mathlib.Omega.{arith}
 use lib.Dec.{eqb}
-use lib.Bits.{bitAnd, bitXor}
+use lib.Bits.{bitAnd, bitOr, bitXor}
 use Rattle.words.specs.Keys.{_⊕_}
 
 pub digit : (n : ℕ) → n < 2 → n ≡ cond (eqb n 1) 1 0
@@ -16,6 +16,15 @@ pub both-bits : (p q : Bool) {x y : ℕ} → x ≡ cond p 1 0 → y ≡ cond q 1
 both-bits p q e f = ap₂ bitAnd e f ∙ go p q
   where
     go : (p q : Bool) → bitAnd (cond p 1 0) (cond q 1 0) ≡ cond (p && q) 1 0
+    go true true = refl
+    go true false = refl
+    go false true = refl
+    go false false = refl
+
+pub either-bits : (p q : Bool) {x y : ℕ} → x ≡ cond p 1 0 → y ≡ cond q 1 0 → bitOr x y ≡ cond (p || q) 1 0
+either-bits p q e f = ap₂ bitOr e f ∙ go p q
+  where
+    go : (p q : Bool) → bitOr (cond p 1 0) (cond q 1 0) ≡ cond (p || q) 1 0
     go true true = refl
     go true false = refl
     go false true = refl

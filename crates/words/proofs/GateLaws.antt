@@ -3,7 +3,7 @@
 -- never looks at the second. Assumes nothing.
 use Prim.Native.Nat.{ℕ, _*_, _/_, _<_}
 use mathlib.Core.Path.{_≡_, refl, sym, ap, ap₂, _∙_, subst}
-use mathlib.Core.Bool.{Bool, true, false, not, _&&_, _||_}
+use mathlib.Core.Bool.{Bool, true, false, not, _&&_, _||_, false≢true}
 use mathlib.Core.Logic.{_≢_}
 use native.Mathlib.Omega.{arith}
 use lib.ListN.{length}
@@ -12,7 +12,7 @@ use Rattle.words.specs.declared.Bits as B
 use Rattle.words.specs.declared.Gate.{Gate}
 use Rattle.words.specs.declared.Gate.the-variants.{Id, X, Y, Z, H, S, Sdg, Sx, Sxdg, Cx, Cz, Swap}
 use Rattle.words.specs.Keys.{Key, _⊕_, bitAt, zAt, Words}
-use Rattle.words.specs.Gates.{hasTwoTargets, mk, conjBits, conjPhase, bitsAt, flipWhen, moved, conjKey, meets}
+use Rattle.words.specs.Gates.{hasTwoTargets, mk, conjBits, conjPhase, hasPhase, bitsAt, flipWhen, moved, conjKey, meets}
 use Rattle.words.proofs.KeyLaws.{flipAt-length, flipAt-words, bitAt-flip-same, bitAt-flip-other}
 use Rattle.words.proofs.EveryGate.{and-fst, and-snd, at-each, same, same→eq}
 
@@ -247,3 +247,18 @@ module _ (g : Gate) (w a b c : ℕ) (k : Key) (one : hasTwoTargets g ≡ false) 
     where
       turns : (b : ℕ) → conjPhase g (bitsAt w a b k) ≡ conjPhase g (atFirst (bitsAt w a b k))
       turns b = let s = bitsAt w a b k in eqb→eq _ _ (and-snd (same (conjBits g s) (resultAtFirst g s)) _ (alone g s one))
+
+-- a gate without a phase
+pub no-phase : (g : Gate) (s : B.Bits) → hasPhase g ≡ false → conjPhase g s ≡ 0
+no-phase Cx s e = refl
+no-phase H s e = absurd (false≢true (sym e))
+no-phase S s e = absurd (false≢true (sym e))
+no-phase Sdg s e = absurd (false≢true (sym e))
+no-phase Sx s e = absurd (false≢true (sym e))
+no-phase Sxdg s e = absurd (false≢true (sym e))
+no-phase Cz s e = absurd (false≢true (sym e))
+no-phase Swap s e = refl
+no-phase Id s e = refl
+no-phase X s e = absurd (false≢true (sym e))
+no-phase Y s e = absurd (false≢true (sym e))
+no-phase Z s e = absurd (false≢true (sym e))

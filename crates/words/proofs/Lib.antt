@@ -8,5 +8,5 @@ pub mod InverseLaws
 pub mod ProductLaws
 pub mod RowSteps
 pub mod RowLaws
-mod BitNumbers
+pub mod BitNumbers
 mod Place

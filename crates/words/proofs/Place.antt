@@ -14,7 +14,6 @@ use Rattle.words.specs.Keys.{bitOf, flipOf, bitAt, flipAt}
 use Rattle.words.specs.Gates.{flipWhen}
 use Rattle.words.proofs.WordLaws.{xor-flip}
 use Rattle.words.proofs.KeyLaws.{flipAt-out, bitAt-past}
-use Rattle.words.proofs.BitNumbers.{digit}
 
 module _ (k : List ℕ) (base i : ℕ) where
   word : (64 * base + i) / 64 ≡ base + i / 64
@@ -31,8 +30,9 @@ module _ (k : List ℕ) (base i : ℕ) where
   bit-past h = bitAt-past k (64 * base + i) (subst⁻¹ (λ (x : ℕ). length k ≤ x) word h)
 
   -- the bit as a number
-  pub number-place : getD k (base + i / 64) 0 / 2 ^ (i % 64) % 2 ≡ cond (bitAt k (64 * base + i)) 1 0
-  number-place = digit (getD k (base + i / 64) 0 / 2 ^ (i % 64) % 2) (omega arith) ∙ ap (λ (p : Bool). cond p 1 0) (sym bit-place)
+  pub number-place : {r : ℕ} → r ≡ cond (bitOf (getD k (base + i / 64) 0) (i % 64)) 1 0 → r ≡ cond (bitAt k (64 * base + i)) 1 0
+  unfolding bitAt
+  number-place e = e ∙ ap (λ (p : Bool). cond p 1 0) (sym (ap₂ (λ (x y : ℕ). bitOf (getD k x 0) y) word bit))
 
   pub number-past : length k ≤ base + i / 64 → {r : ℕ} → r ≡ 0 → r ≡ cond (bitAt k (64 * base + i)) 1 0
   number-past h e = e ∙ ap (λ (p : Bool). cond p 1 0) (sym (bit-past h))

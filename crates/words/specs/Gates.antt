@@ -58,6 +58,21 @@ conjPhase X s = cond (s .za) 2 0
 conjPhase Y s = cond (s .xa ⊕ s .za) 2 0
 conjPhase Z s = cond (s .xa) 2 0
 
+-- whether a gate gives any key a phase: "cx and swap give no phase", nor does the identity
+abbrev pub hasPhase : Gate → Bool
+hasPhase Cx = false
+hasPhase H = true
+hasPhase S = true
+hasPhase Sdg = true
+hasPhase Sx = true
+hasPhase Sxdg = true
+hasPhase Cz = true
+hasPhase Swap = false
+hasPhase Id = false
+hasPhase X = true
+hasPhase Y = true
+hasPhase Z = true
+
 -- the bits of a key at the targets a and b, and the key with those that the gate changes flipped
 abbrev pub bitsAt : ℕ → ℕ → ℕ → Key → B.Bits
 bitsAt w a b k = mk (bitAt k a) (bitAt k (zAt w a)) (bitAt k b) (bitAt k (zAt w b))

@@ -5,10 +5,17 @@
 // predict wrongly. Each gate touches just the bits that it needs.
 ghost use mathlib.Core.Path.{_≡_};
 ghost use mathlib.Core.Bool.{Bool, cond};
-ghost use Prim.Native.Nat.{_+_, _*_};
-ghost use Rattle.words.specs.Keys.{_⊕_, bitAt, zAt};
-ghost use Rattle.words.specs.Gates.{conjPhase, bitsAt, flipWhen, conjKey};
+ghost use Prim.Native.Nat.{_+_, _*_, _%_};
+ghost use Rattle.words.specs.Keys.{_⊕_, bitOf, bitAt, zAt};
+ghost use Rattle.words.specs.Gates.{hasTwoTargets, conjPhase, hasPhase, bitsAt, flipWhen, conjKey};
 use crate::Gate;
+
+// Bit i of the word that has it: 0 or 1.
+pub fn word_bit(word: u64, i: usize) -> u64
+    ensures { λ r. ⌜ r ≡ cond (bitOf word (i % 64)) 1 0 ⌝ }
+{
+    (word >> (i % 64)) % 2
+}
 
 // Bit i, counted from the word `base`; 0 past the end.
 fn bit_of(words: &[u64], base: usize, i: usize) -> u64
@@ -22,8 +29,7 @@ fn bit_of(words: &[u64], base: usize, i: usize) -> u64
     if n - base <= at {
         return 0;
     }
-    let word = words[base + at];
-    (word >> (i % 64)) % 2
+    word_bit(words[base + at], i)
 }
 
 // Flips bit i, counted from the word `base`, where `on` is 1; for 0, and past the end, nothing changes.
@@ -179,6 +185,26 @@ pub fn clifford_conjugation_phase(key: &[u64], w: usize, gate: Gate, a: usize, b
     }
 }
 
+// Whether a key can gain a factor by the gate: not by controlled-NOT, swap and the identity.
+pub fn has_phase(gate: Gate) -> bool
+    ensures { λ r. ⌜ r ≡ hasPhase gate ⌝ }
+{
+    match gate {
+        Gate::Cx => false,
+        Gate::H => true,
+        Gate::S => true,
+        Gate::Sdg => true,
+        Gate::Sx => true,
+        Gate::Sxdg => true,
+        Gate::Cz => true,
+        Gate::Swap => false,
+        Gate::Id => false,
+        Gate::X => true,
+        Gate::Y => true,
+        Gate::Z => true,
+    }
+}
+
 // The two at once: the factor is taken from the key as it was.
 pub fn conjugate_key(key: &mut [u64], w: usize, gate: Gate, a: usize, b: usize) -> u8
     ensures { λ r. ⌜ (now (key .exit) ≡ conjKey gate w a b (now (key .entry))) × (r ≡ conjPhase gate (bitsAt w a b (now (key .entry)))) ⌝ }
@@ -186,4 +212,24 @@ pub fn conjugate_key(key: &mut [u64], w: usize, gate: Gate, a: usize, b: usize) 
     let quarters = clifford_conjugation_phase(key, w, gate, a, b);
     propagate_backward_words(key, w, gate, a, b);
     quarters
+}
+
+// Whether a gate has two targets.
+pub fn has_two_targets(gate: Gate) -> bool
+    ensures { λ r. ⌜ r ≡ hasTwoTargets gate ⌝ }
+{
+    match gate {
+        Gate::Cx => true,
+        Gate::Cz => true,
+        Gate::Swap => true,
+        Gate::Id => false,
+        Gate::X => false,
+        Gate::Y => false,
+        Gate::Z => false,
+        Gate::H => false,
+        Gate::S => false,
+        Gate::Sdg => false,
+        Gate::Sx => false,
+        Gate::Sxdg => false,
+    }
 }

@@ -1,41 +1,39 @@
--- `apply_backward_channel` meets its contract: no room, or one of the two kinds. Assumes nothing.
-use Prim.Native.Nat.{_*_}
-use native.Mathlib.Omega.{arith}
-use borrow.Author.Tests.{leb-true}
+-- `apply_backward_channel` meets its contract: none is met, or the terms go through the channel. Assumes nothing.
+use mathlib.Core.Path.{_≡_, sym, ap, _∙_}
+use mathlib.Core.Bool.{Bool, true}
+use Prim.Native.Nat.{ℕ}
 use denote.Ref.{now}
-use Rattle.rows.proofs.HoldLaws.{room-less}
-use Rattle.rows.proofs.StepLaws.{rows-room, unstepped, twice-yes, twice-no}
-use Rattle.branches.proofs.ChannelRows.{channel-local, channel-pair}
+use Rattle.terms.specs.Met.{oneOrTwo, actsOnTwo, kindTargets, inWords}
+use Rattle.terms.proofs.LetterSteps.{bare-channeled}
+use Rattle.rows.specs.Rows.{metIn}
+use Rattle.rows.proofs.LetterRows.{untouched-bare, same-grown, once}
 use borrow.Author.Needs.{needs}
 use Rattle.branches.proofs.channels.apply_backward_channel.Statement.{statement}
 use Rattle.branches.proofs.channels.apply_backward_channel.Tie as tie
 
+-- the count, of the channel's targets
+met : (s : tie.Start) {two : Bool} {m : ℕ} → two ≡ actsOnTwo (s .args .action .kind) → let a = s .args in
+    m ≡ metIn (a .w) (oneOrTwo two (a .a) (a .b)) (a .n) (now (a .words)) (now (a .coeffs)) → m ≡ metIn (a .w) (kindTargets (a .action .kind) (a .a) (a .b)) (a .n) (now (a .words)) (now (a .coeffs))
+met s t e = let a = s .args in e ∙ ap (λ (two : Bool). metIn (a .w) (oneOrTwo two (a .a) (a .b)) (a .n) (now (a .words)) (now (a .coeffs))) t
+
 returns : tie.Need-returns
-returns c = let a = c .before .before .before .before .before .args in
-    unstepped (a .w) (2 * a .n) _ (a .n) _ (now (a .words)) (now (a .coeffs)) (twice-no (a .w) (a .n) (now (a .words)) (now (a .coeffs)) (c .before .rows-in .ensures) (c .if1 .taken))
-
-apply-local-requires : tie.Need-apply-local-requires
-apply-local-requires c κs = let i = c .before .before .before .before .before .before in
-    let a = c .before .before .before .before .before .before .before .before .before .before .before .args in
-    rows-room (a .w) (2 * a .n) (now (a .words)) (now (a .coeffs)) (leb-true (2 * a .n) _ (twice-yes (a .w) (a .n) (now (a .words)) (now (a .coeffs)) (i .before .rows-in .ensures) (i .if1 .left)))
-
-scale-eithers-requires : tie.Need-scale-eithers-requires
-scale-eithers-requires c κs = let i = c .before .before .before .before .before in
+returns c =
     let a = c .before .before .before .before .before .before .before .before .before .before .args in
-    room-less {R = a .n} (omega arith) (rows-room (a .w) (2 * a .n) (now (a .words)) (now (a .coeffs)) (leb-true (2 * a .n) _ (twice-yes (a .w) (a .n) (now (a .words)) (now (a .coeffs)) (i .before .rows-in .ensures) (i .if1 .left))))
+    let two = c .before .before .before .before .before .before .on-two .ensures in
+    let m = met (c .before .before .before .before .before .before .before .before .before .before) two (c .before .before .before .met-rows .ensures) in
+    let qs = kindTargets (a .action .kind) (a .a) (a .b) in
+    let f : inWords (a .w) qs ≡ true = ap (λ (t : Bool). inWords (a .w) (oneOrTwo t (a .a) (a .b))) (sym two) ∙ sym (c .before .has-targets .ensures) ∙ c .if2 .taken in (
+      m,
+      same-grown (a .w) (a .n) _ (now (a .words)) (now (a .coeffs))
+          (λ e. bare-channeled (a .w) (a .a) (a .b) (a .action) _ (untouched-bare (a .w) (a .n) qs (now (a .words)) (now (a .coeffs)) (sym m ∙ c .before .before .if1 .taken) f (once (a .w) (a .n) (now (a .words)) (now (a .coeffs)) e))),
+    )
 
 returns-2 : tie.Need-returns-2
-returns-2 c = let i = c .before .before .before .before .before .before .before .before .before .before .before .before .before in
-    let a = c .before .before .before .before .before .before .before .before .before .before .before .before .before .before .before .before .before .before .args in
-    let e = c .before .before .before .before .before .before .apply-local .ensures in
-    channel-local (a .w) (a .a) (a .b) (a .n) (a .action) (now (a .words)) (now (a .coeffs)) (twice-yes (a .w) (a .n) (now (a .words)) (now (a .coeffs)) (i .before .rows-in .ensures) (i .if1 .left)) (c .before .before .before .before .before .before .before .before .before .before .enum-told .given .1) (e .0) (e .1)
-
-returns-3 : tie.Need-returns-3
-returns-3 c = let i = c .before .before .before .before .before .before .before .before in
-    let a = c .before .before .before .before .before .before .before .before .before .before .before .before .before .args in
-    channel-pair (a .w) (a .a) (a .b) (a .n) (a .action) (now (a .words)) (now (a .coeffs)) (twice-yes (a .w) (a .n) (now (a .words)) (now (a .coeffs)) (i .before .rows-in .ensures) (i .if1 .left)) (c .before .before .before .before .before .enum-told2 .given .1) (c .before .before .scale-eithers .ensures)
+returns-2 c = (met (c .before .before .before .before .before .before .before .before .before .before .before .before .before .before .before .before .before .before) (c .before .before .before .before .before .before .before .before .before .before .before .before .before .before .on-two .ensures) (c .before .before .before .before .before .before .before .before .before .before .before .met-rows .ensures), c .before .before .before .before .before .before .channel-held .ensures)
 
 pub apply-backward-channel-spec : {M : Type 1} → statement M
 apply-backward-channel-spec =
     tie.close
-    (tie.spec (λ c κs. search needs) returns (λ c. search needs) apply-local-requires (λ c. search needs) (λ c. search needs) scale-eithers-requires (λ c. search needs) (λ c. search needs) (λ c. search needs) returns-2 (λ c. search needs) (λ c. search needs) returns-3)
+    (tie.spec
+    (λ c κs. search needs) (λ c κs. search needs) (λ c κs. search needs) (λ c. search needs) (λ c. search needs) returns (λ c κs. search needs) (λ c. search needs)
+    (λ c. search needs) (λ c. search needs) returns-2)

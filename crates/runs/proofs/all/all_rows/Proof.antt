@@ -5,9 +5,10 @@ use native.Mathlib.Omega.{arith}
 use lib.ListN.{length}
 use denote.Ref.{now}
 use Rattle.turns.specs.OpList.{opList}
+use Rattle.runs.proofs.SumCounts.{short-ops}
 use borrow.Author.Needs.{needs}
 use Rattle.runs.specs.Means.{allTo, AllTold}
-use Rattle.runs.proofs.AllRunLaws.{all-start, all-turn, all-ready}
+use Rattle.runs.proofs.AllRunLaws.{all-start, all-turn, all-ready, all-touched}
 use Rattle.runs.proofs.all.all_rows.Statement.{statement}
 use Rattle.runs.proofs.all.all_rows.Tie as tie
 
@@ -21,7 +22,12 @@ loop-holds : tie.Need-loop-holds Inv-loop μ-loop
 loop-holds c = let a = c .before .before .before .before .before .before .before .before .args in (omega arith, refl, all-start (a .w) (a .limits) (now (a .marks)) (opList (a .n) (now (a .codes)) (now (a .reals))) _ (now (a .words)) (now (a .coeffs)) (now (a .means)) (c .nothing-yet .ensures))
 
 all-step-requires : tie.Need-all-step-requires Inv-loop μ-loop
-all-step-requires c κs = all-ready (c .before .before .before .before .before .before .before .before .before .before .before .before .before .before .pre) (c .before .before .before .before .before .loop .inv .2) (c .before .before .before .before .loop-test .taken)
+all-step-requires c κs = let s = c .before .before .before .before .before .before .before .before .before .before .before .before .before .before in
+    let a = s .args in
+    let l = c .before .before .before .before .before .loop in (
+      all-ready (s .pre) (l .inv .2) (c .before .before .before .before .loop-test .taken),
+      all-touched (a .w) (a .limits) (now (a .marks)) (opList (a .n) (now (a .codes)) (now (a .reals))) (short-ops (a .n) (now (a .codes)) (now (a .reals))) (s .pre) (l .inv .2),
+    )
 
 loop-again : tie.Need-loop-again Inv-loop μ-loop
 loop-again c = let a = c .before .before .before .before .before .before .before .before .before .before .before .before .before .before .before .before .before .before .before .before .before .before .before .args in (omega arith, c .before .before .before .before .before .before .before .before .all-step .kept .1 .1 .1 .1 .1 .1 .1 .0 ∙ c .before .before .before .before .before .before .before .before .before .before .before .before .before .before .loop .inv .1, all-turn (a .w) (a .limits) (now (a .marks)) (opList (a .n) (now (a .codes)) (now (a .reals))) (c .before .before .before .before .before .before .before .before .before .before .before .before .before .before .loop .inv .2) (c .before .before .before .before .before .before .before .before .all-step .ensures))

@@ -11,7 +11,7 @@ returns : tie.Need-returns
 returns c = let s = c .before .before .before .before .before .before .before .before .before .before .before .before .before .before .before .before .before .before in
     let a = s .args in
     let p = s .pre in
-    z-answers (a .w) (a .limits) (now (a .marks)) (opList (a .n) (now (a .codes)) (now (a .reals))) (a .q) (a .tally) [] [] (p .0) (p .1) (p .2) (p .3) (c .before .before .before .before .before .before .run-followed .ensures)
+    z-answers (a .w) (a .limits) (now (a .marks)) (opList (a .n) (now (a .codes)) (now (a .reals))) (a .q) (a .tally) [] [] (p .0) (p .1) (p .2) (p .3) (p .4) (c .before .before .before .before .before .before .run-followed .ensures)
 
 pub run-z-spec : {M : Type 1} → statement M
 run-z-spec =

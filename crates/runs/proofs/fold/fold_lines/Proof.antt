@@ -5,11 +5,12 @@ use native.Mathlib.Omega.{arith}
 use lib.ListN.{length}
 use denote.Ref.{now}
 use Rattle.turns.specs.OpList.{opList}
+use Rattle.runs.proofs.SumCounts.{short-ops}
 use borrow.Author.Needs.{needs}
 use Rattle.terms.specs.Lists.{tab}
 use Rattle.runs.specs.Outcome.{nothingYet, foldLines}
 use Rattle.runs.specs.Table.{lineAt, taskIn, Totals}
-use Rattle.runs.proofs.FoldLaws.{fold-none, fold-next, ready-again}
+use Rattle.runs.proofs.FoldLaws.{fold-none, fold-next, ready-again, lines-touched}
 use Rattle.runs.proofs.fold.fold_lines.Statement.{statement}
 use Rattle.runs.proofs.fold.fold_lines.Tie as tie
 
@@ -27,7 +28,11 @@ fold-line-requires : tie.Need-fold-line-requires Inv-loop μ-loop
 fold-line-requires c κs = let s = c .before .before .before .before .before .before .before .before .before .before .before .before .before in
     let a = s .args in
     let p = s .pre in
-    (p .0, ready-again (a .w) (a .limits) (now (a .keys)) (now (a .weights)) (a .lines) _ (omega (arith, c .before .before .before .loop-test .taken)) (p .1) (c .before .before .before .before .loop .inv .2))
+    let ops = opList (a .n) (now (a .codes)) (now (a .reals)) in (
+      p .0,
+      ready-again (a .w) (a .limits) (now (a .keys)) (now (a .weights)) (a .lines) _ (omega (arith, c .before .before .before .loop-test .taken)) (p .1) (c .before .before .before .before .loop .inv .2),
+      lines-touched (a .qubits) (a .limits) (now (a .keys)) (now (a .weights)) (a .lines) (c .before .before .before .before .loop .i) (a .w) ops (now (a .marks)) (short-ops (a .n) (now (a .codes)) (now (a .reals))) (c .before .before .before .loop-test .taken) (p .1) (c .before .before .before .before .loop .inv .2),
+    )
 
 loop-again : tie.Need-loop-again Inv-loop μ-loop
 loop-again c = let a = c .before .before .before .before .before .before .before .before .before .before .before .before .before .before .before .before .before .before .before .before .args in

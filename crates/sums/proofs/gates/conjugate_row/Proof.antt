@@ -1,11 +1,13 @@
--- `conjugate_row` meets its contract: the row goes through the gate, and its coefficient is turned by the phase. Assumes nothing.
+-- `conjugate_row` meets its contract: the row goes through the gate, and its coefficient is turned by the phase, if the gate has one. Assumes nothing.
+use mathlib.Core.Path.{sym, _∙_}
 use native.Mathlib.Omega.{arith}
+use borrow.Author.Tests.{not-true}
 use denote.Ref.{now}
 use borrow.Author.Needs.{needs}
 use Prim.Native.Nat.{_+_, _*_, _≤_, _<_}
 use lib.ListN.{length, length-set}
 use Rattle.rows.proofs.ClearLaws.{row-room}
-use Rattle.sums.proofs.GateRows.{gate-row}
+use Rattle.sums.proofs.GateRows.{gate-row, gate-unturned}
 use Rattle.sums.proofs.gates.conjugate_row.Statement.{statement}
 use Rattle.sums.proofs.gates.conjugate_row.Tie as tie
 
@@ -15,16 +17,21 @@ room s = row-room (s .args .w) (s .args .i) (now (s .args .words)) (now (s .args
 
 returns : tie.Need-returns
 returns c =
-    let k = c .before .before .before .before .before in
-    let a = k .before .before .before .before .args in
-    gate-row (a .gate) (a .w) (a .a) (a .b) (a .i) (now (a .words)) (now (a .coeffs)) (k .conjugate-key .ensures .0) (k .conjugate-key .ensures .1) (c .turned .ensures)
+    let a = c .before .before .before .before .before .before .before .before .args in
+    gate-unturned (a .gate) (a .w) (a .a) (a .b) (a .i) (now (a .words)) (now (a .coeffs)) (c .before .before .before .before .conjugate-key .ensures .0) (sym (c .before .has-phase .ensures) ∙ not-true (c .before .has-phase .result) (c .if1 .taken))
+
+returns-2 : tie.Need-returns-2
+returns-2 c =
+    let a = c .before .before .before .before .before .before .before .before .before .before .before .args in
+    let k = c .before .before .before .before .before .before .before .conjugate-key .ensures in
+    gate-row (a .gate) (a .w) (a .a) (a .b) (a .i) (now (a .words)) (now (a .coeffs)) (k .0) (k .1) (c .turned .ensures)
 
 pub conjugate-row-spec : {M : Type 1} → statement M
 conjugate-row-spec =
     tie.close
     (tie.spec
     (λ c. omega (arith, room (c .before .before))) (λ c. omega (arith, room (c .before .before))) (λ c. omega (arith, room (c .before .before)))
-    (λ c. omega (arith, room (c .before .before))) (λ c. search needs) (λ c. search needs) (λ c. room (c .before .before) .0) (λ c κs. search needs)
-    (λ c. search needs) (λ c. search needs) (λ c. search needs) (λ c. search needs) (λ c. search needs) (λ c. search needs) (λ c κs. search needs)
-    (λ c. search needs) (λ c. search needs) (λ c. search needs) (λ c. search needs)
-    (λ c. simp length-set (room (c .before .before .before .before .before .before .before .before .before) .1)) (λ c. search needs) (λ c. search needs) returns)
+    (λ c. omega (arith, room (c .before .before))) (λ c. search needs) (λ c. search needs) (λ c. room (c .before .before) .0) (λ c κs. search needs) (λ c κs. search needs)
+    (λ c. search needs) returns (λ c. search needs) (λ c. search needs) (λ c. search needs) (λ c. search needs) (λ c. search needs) (λ c. search needs)
+    (λ c κs. search needs) (λ c. search needs) (λ c. search needs) (λ c. search needs) (λ c. search needs)
+    (λ c. simp length-set (room (c .before .before .before .before .before .before .before .before .before .before .before) .1)) (λ c. search needs) (λ c. search needs) returns-2)

@@ -2,6 +2,7 @@
 use denote.Ref.{now}
 use Rattle.turns.specs.declared.Op.the-variants.{Native, Rz, P, Rzz}
 use Rattle.turns.specs.declared.Op.the-variants.{Pauli, Depol, Damp, Phase, Thermal, Depol2}
+use Rattle.terms.proofs.TargetLaws.{action-kind}
 use Rattle.turns.proofs.ApplyLaws.{acted, acted-t, acted-tdg, acted-barrier}
 use borrow.Author.Needs.{needs}
 use Rattle.turns.proofs.apply.apply_backward.Statement.{statement}
@@ -26,22 +27,22 @@ apply-zz-requires : tie.Need-apply-zz-requires
 apply-zz-requires c κs = c .before .before .before .before .before .before .before .before .before .pre
 
 apply-channel-requires : tie.Need-apply-channel-requires
-apply-channel-requires c κs = c .before .before .before .before .before .before .before .before .before .pre
+apply-channel-requires c κs = let p = c .before .before .before .before .before .before .before .before .before .pre in (p .0, p .1, action-kind _)
 
 apply-channel-requires-2 : tie.Need-apply-channel-requires-2
-apply-channel-requires-2 c κs = c .before .before .before .before .before .before .before .before .before .pre
+apply-channel-requires-2 c κs = let p = c .before .before .before .before .before .before .before .before .before .pre in (p .0, p .1, action-kind _)
 
 apply-channel-requires-3 : tie.Need-apply-channel-requires-3
-apply-channel-requires-3 c κs = c .before .before .before .before .before .before .before .before .before .pre
+apply-channel-requires-3 c κs = let p = c .before .before .before .before .before .before .before .before .before .pre in (p .0, p .1, action-kind _)
 
 apply-channel-requires-4 : tie.Need-apply-channel-requires-4
-apply-channel-requires-4 c κs = c .before .before .before .before .before .before .before .before .before .pre
+apply-channel-requires-4 c κs = let p = c .before .before .before .before .before .before .before .before .before .pre in (p .0, p .1, action-kind _)
 
 apply-channel-requires-5 : tie.Need-apply-channel-requires-5
-apply-channel-requires-5 c κs = c .before .before .before .before .before .before .before .before .before .pre
+apply-channel-requires-5 c κs = let p = c .before .before .before .before .before .before .before .before .before .pre in (p .0, p .1, action-kind _)
 
 apply-channel2-requires : tie.Need-apply-channel2-requires
-apply-channel2-requires c κs = c .before .before .before .before .before .before .before .before .before .pre
+apply-channel2-requires c κs = let p = c .before .before .before .before .before .before .before .before .before .pre in (p .0, p .1, action-kind _)
 
 returns : tie.Need-returns
 returns c = acted _ _ _ (Native _ _ _) (c .before .before .before .before .before .before .before .before .op .given .1) (c .before .before .before .before .apply-gate .ensures)

@@ -1,7 +1,7 @@
 -- `apply_channel2` meets its contract. Assumes nothing.
 use mathlib.Core.Path.{sym, _∙_}
-use mathlib.Core.List.{[], _∷_}
 use denote.Ref.{now}
+use Rattle.terms.specs.declared.ChannelKind.the-variants.{Depolarizing2q}
 use Rattle.turns.proofs.ApplyLaws.{skipped, channel-applied}
 use borrow.Author.Needs.{needs}
 use Rattle.turns.proofs.apply.apply_channel2.Statement.{statement}
@@ -10,7 +10,7 @@ use Rattle.turns.proofs.apply.apply_channel2.Tie as tie
 returns : tie.Need-returns
 returns c = let s = c .before .before .before .before .before .before .before .before .before .before .before .before .before .before .before .before in
     let a = s .args in
-    channel-applied (a .w) (a .n) (now (a .words)) (now (a .coeffs)) (s .pre .0) (λ j. c .before .before .before .before .before .before .before .before .before .before .before .before .before .before .before .slice-known .given j .fits) (a .a ∷ a .b ∷ []) (a .a) (a .b) (a .channel) _
+    channel-applied (a .w) (a .n) (now (a .words)) (now (a .coeffs)) (s .pre .0) (λ j. c .before .before .before .before .before .before .before .before .before .before .before .before .before .before .before .slice-known .given j .fits) Depolarizing2q (a .a) (a .b) (a .channel) _ (s .pre .2)
     (sym (c .before .before .before .before .before .before .before .before .before .before .before .before .has-pair .ensures) ∙ c .before .before .before .before .before .before .before .before .before .before .before .if1 .taken) (c .before .before .before .before .before .before .before .before .before .before .channel-action .ensures) (c .before .before .before .before .before .before .apply-backward-channel .ensures)
 
 returns-2 : tie.Need-returns-2

@@ -12,7 +12,7 @@ returns : tie.Need-returns
 returns c = let s = c .before .before .before .before .before .before .before .before .before .before .before .before .before .before .before in
     let a = s .args in
     let on = sym (c .before .before .before .before .before .before .before .before .before .before .before .has-qubit .ensures) ∙ c .before .before .before .before .before .before .before .before .before .before .if1 .taken in
-    axis-applied (a .w) (a .n) (now (a .words)) (now (a .coeffs)) (s .pre .0) (λ j. c .before .before .before .before .before .before .before .before .before .before .before .before .before .before .slice-known .given j .fits) (Z (a .q)) (a .sin) (a .cos) (a .q ∷ [])
+    axis-applied (a .w) (a .n) (now (a .words)) (now (a .coeffs)) (s .pre .0) (λ j. c .before .before .before .before .before .before .before .before .before .before .before .before .before .before .slice-known .given j .fits) (Z (a .q)) (a .sin) (a .cos)
     on (axis-on (a .w) (a .q) on) (s .pre .1) (c .before .before .before .before .before .before .branch-z-rotation .ensures)
 
 returns-2 : tie.Need-returns-2

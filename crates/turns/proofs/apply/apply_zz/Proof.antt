@@ -12,7 +12,7 @@ returns : tie.Need-returns
 returns c = let s = c .before .before .before .before .before .before .before .before .before .before .before .before .before .before .before in
     let a = s .args in
     let on = sym (c .before .before .before .before .before .before .before .before .before .before .before .has-pair .ensures) ∙ c .before .before .before .before .before .before .before .before .before .before .if1 .taken in
-    axis-applied (a .w) (a .n) (now (a .words)) (now (a .coeffs)) (s .pre .0) (λ j. c .before .before .before .before .before .before .before .before .before .before .before .before .before .before .slice-known .given j .fits) (Zz (a .a) (a .b)) (a .sin) (a .cos) (a .a ∷ a .b ∷ [])
+    axis-applied (a .w) (a .n) (now (a .words)) (now (a .coeffs)) (s .pre .0) (λ j. c .before .before .before .before .before .before .before .before .before .before .before .before .before .before .slice-known .given j .fits) (Zz (a .a) (a .b)) (a .sin) (a .cos)
     on (pair-on (a .w) (a .a) (a .b) on) (s .pre .1) (c .before .before .before .before .before .before .branch-zz-rotation .ensures)
 
 returns-2 : tie.Need-returns-2

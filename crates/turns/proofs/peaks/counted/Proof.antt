@@ -60,10 +60,10 @@ Note 𝓤 H A at-mem run = tripleOf 𝓤 H A note.signature (note.spec 𝓤 H A 
 
 module _ {M : Type 1} (𝓤 : URA M) (H : Heap 𝓤) (A : Atoms 𝓤) (W : Given 𝓤 H A) (at-mem : Memory → SProp 𝓤) (run : Routine → Fun 𝓤) (h : Tally) (n : ℕ) (n-fits : n < 2 ^ 64) where
   abbrev mach : Tally → Val
-  mach t = vstruct (vcons (vint w64 (t .peak)) (vcons (vfloat binary64 (t .discarded)) vnil))
+  mach t = vstruct (vcons (vint w64 (t .peak)) (vcons (vfloat binary64 (t .discarded)) (vcons (vint w64 (t .touched)) vnil)))
 
   abbrev Facts : Tally → Type 0
-  Facts r = (r .peak ≡ max (h .peak) n) × (r .discarded ≡ h .discarded)
+  Facts r = (r .peak ≡ max (h .peak) n) × ((r .discarded ≡ h .discarded) × (r .touched ≡ h .touched))
 
   abbrev Post : Val → SProp 𝓤
   Post = walkOf 𝓤 H A f.ended stayed (f.clauses 𝓤 H A at-mem run) .post ((tt, tt, tt, (h, (n, tt)), (mach h ∷ [], (vint w64 n ∷ [], tt))), tt)

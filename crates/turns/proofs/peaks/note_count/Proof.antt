@@ -70,13 +70,13 @@ module _ {M : Type 1} (𝓤 : URA M) (H : Heap 𝓤) (A : Atoms 𝓤) (W : Given
   x = (record { ptr = (b, o); name = γ; now = h }, (n, tt))
 
   abbrev h′ : ℕ → Tally
-  h′ r = record { peak = r; discarded = h .discarded }
+  h′ r = record { peak = r; discarded = h .discarded; touched = h .touched }
 
   abbrev at : List Val × (List Val × Unit {0})
   at = (vptr b o ∷ [], (vint w64 n ∷ [], tt))
 
   abbrev mach : ℕ → Val
-  mach m = vstruct (vcons (vint w64 m) (vcons (vfloat binary64 (h .discarded)) vnil))
+  mach m = vstruct (vcons (vint w64 m) (vcons (vfloat binary64 (h .discarded)) (vcons (vint w64 (h .touched)) vnil)))
 
   -- what whoever holds the struct knows of the peak, and what closing the borrow asks
   peak-fits : Is T.the-row h (LL.vals T.the-type T′.the-laws h) → h .peak < 2 ^ 64
@@ -99,7 +99,7 @@ module _ {M : Type 1} (𝓤 : URA M) (H : Heap 𝓤) (A : Atoms 𝓤) (W : Given
   exits : (r : ℕ) → r ≡ max (h .peak) n → ent 𝓤 (sep 𝓤 (A .obs γ (T.the-row .coded .code (h′ r))) (sep 𝓤 (A .bor κ (Body (mem T.the-row) b o γ)) (A .lft κ q))) (Post vunit)
   exits r e =
       qed W (‵ (fobs γ (T.the-row .coded .code (h′ r))) ∷ ‵ (fbor κ (Body (mem T.the-row) b o γ)) ∷ ‵ (flft κ q) ∷ []) ∵
-      suffices ! _ (ends-at 𝓤 H A f.ended stayed (f.clauses 𝓤 H A at-mem run) W (((κ, tt), (q, tt), tt, x, at), tt) vunit tt (h′ r, (tt, tt)) (tt, (tt, tt))) $ says ! (e, refl) $ nothing ! $ move ! (3 ∷ 0 ∷ []) $ join ! $
+      suffices ! _ (ends-at 𝓤 H A f.ended stayed (f.clauses 𝓤 H A at-mem run) W (((κ, tt), (q, tt), tt, x, at), tt) vunit tt (h′ r, (tt, tt)) (tt, (tt, tt))) $ says ! (e, (refl, refl)) $ nothing ! $ move ! (3 ∷ 0 ∷ []) $ join ! $
       frame ! $ feqI ! (List Val) (vptr b o ∷ []) (vptr b o ∷ []) refl $ fjoin3 ! $ nothing ! $ owned ! usize (Is usize) (uint-makes 𝓤 H A W w64) n _ (refl, n-fits) $ fjoin ! $ move ! (1 ∷ 0 ∷ []) $ fjoin ! $
       feqI ! (List Val) (vunit ∷ []) (vunit ∷ []) refl $ move ! (1 ∷ 0 ∷ []) $ done !
 

@@ -2,6 +2,7 @@
 use mathlib.Core.Path.{_∙_}
 use denote.Ref.{now}
 use Rattle.turns.specs.OpList.{opList}
+use Rattle.turns.proofs.StartLaws.{given-low, start-untouched}
 use Rattle.turns.proofs.RunLaws.{tells-ready, tells-then, run-ends}
 use Rattle.turns.proofs.run.run_held.Statement.{statement}
 use Rattle.turns.proofs.run.run_held.Tie as tie
@@ -12,7 +13,11 @@ start-rows-requires c κs = c .before .before .before .before .before .before .b
 run-rows-requires : tie.Need-run-rows-requires
 run-rows-requires c κs =
     let s = c .before .before .before .before .before .before .before .before .before .before .before .before .before .before .before .before .before .before .before .before .before in
-    tells-ready (s .args .w) (s .args .limits) _ (s .pre .1) (c .before .before .before .before .before .before .before .before .before .start-rows .ensures)
+    let a = s .args in
+    let e = c .before .before .before .before .before .before .before .before .before .start-rows .ensures in (
+      tells-ready (a .w) (a .limits) _ (s .pre .1) e,
+      (start-untouched (a .w) (a .limits) (now (a .keys)) (now (a .weights)) (a .start) e, given-low (a .w) (a .limits) (now (a .keys)) (now (a .weights)) (a .start) (s .pre .0)),
+    )
 
 finish-requires : tie.Need-finish-requires
 finish-requires c κs =

@@ -9,8 +9,8 @@ use Rattle.turns.specs.declared.Op.the-variants.{Native}
 use Rattle.turns.specs.Turn.{Stage, State}
 use Rattle.turns.specs.OpList.{opList}
 use Rattle.turns.specs.Told.{stageIn, Tells}
-use Rattle.turns.proofs.OpListLaws.{op-counted, op-listed}
-use Rattle.turns.proofs.RunLaws.{from, from-end, tells-start, tells-ready, loop-turn}
+use Rattle.turns.proofs.OpListLaws.{op-list-length, op-counted, op-listed}
+use Rattle.turns.proofs.RunLaws.{from, from-end, tells-start, tells-ready, tells-slack, countable, loop-turn}
 use borrow.Author.Needs.{needs}
 use Rattle.turns.proofs.run.run_rows.Statement.{statement}
 use Rattle.turns.proofs.run.run_rows.Tie as tie
@@ -34,13 +34,18 @@ loop-holds c = let s = c .before .before .before .before .before .before .before
       refl,
       subst (λ (x : Stage State). Tells (a .w) (a .limits) (a .start) (now (a .words)) (now (a .words)) (now (a .coeffs)) (now (a .coeffs)) x)
           (sym (from-end (a .w) (a .limits) (now (a .marks)) (opList (a .n) (now (a .codes)) (now (a .reals))) S (c .smaller .result) (omega arith)))
-          (tells-start (a .w) (a .limits) (a .start) (now (a .words)) (now (a .coeffs)) (s .pre)),
+          (tells-start (a .w) (a .limits) (a .start) (now (a .words)) (now (a .coeffs)) (s .pre .0)),
     )
 
 step-requires : tie.Need-step-requires Inv-loop μ-loop
 step-requires c κs = let s = c .before .before .before .before .before .before .before .before .before .before .before .before .before .before .before in
     let a = s .args in
-    tells-ready (a .w) (a .limits) _ (s .pre .room) (c .before .before .before .before .before .before .loop .inv .3)
+    let l = c .before .before .before .before .before .before .loop in
+    let ops = opList (a .n) (now (a .codes)) (now (a .reals)) in
+    let short : length ops ≤ 4096 = omega (arith, op-list-length (a .n) (now (a .codes)) (now (a .reals))) in (
+      tells-ready (a .w) (a .limits) _ (s .pre .0 .room) (l .inv .3),
+      tells-slack (a .w) (a .limits) _ (l .inv .3) (countable (a .w) (a .limits) (now (a .marks)) ops (a .start) (now (a .words)) (now (a .coeffs)) (s .pre .0) (s .pre .1 .0) (s .pre .1 .1) short (l .i)),
+    )
 
 loop-again : tie.Need-loop-again Inv-loop μ-loop
 loop-again c = let s = c .before .before .before .before .before .before .before .before .before .before .before .before .before .before .before .before .before .before .before .before .before .before in

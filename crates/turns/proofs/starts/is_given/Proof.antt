@@ -1,25 +1,16 @@
 -- `is_given` meets its contract. Assumes nothing.
+use mathlib.Core.Path.{ap, _∙_}
+use mathlib.Core.Bool.{Bool, _&&_}
+use lib.Dec.{leb}
 use denote.Ref.{now}
-use Rattle.turns.proofs.StartLaws.{given-lines, given-alone, given-z}
 use borrow.Author.Needs.{needs}
 use Rattle.turns.proofs.starts.is_given.Statement.{statement}
 use Rattle.turns.proofs.starts.is_given.Tie as tie
 
 returns : tie.Need-returns
-returns c = let a = c .before .before .before .before .before .before .before .before .args in
-    given-lines (a .w) (a .limits .limit) (now (a .keys)) (now (a .weights)) (a .start) _ (c .before .before .before .start .given .1) (c .before .before .before .before .before .rows-of .ensures) (c .before .both .ensures) (c .both2 .ensures)
-
-returns-2 : tie.Need-returns-2
-returns-2 c = let a = c .before .before .before .before .before .before .before .args in
-    given-alone (a .w) (a .limits .limit) (now (a .keys)) (now (a .weights)) (a .start) _ (c .before .before .start2 .given .1) (c .before .before .before .before .rows-of .ensures) (c .both3 .ensures)
-
-returns-3 : tie.Need-returns-3
-returns-3 c = let a = c .before .before .before .before .before .before .before .before .before .args in
-    given-z (a .w) (a .limits .limit) (now (a .keys)) (now (a .weights)) (a .start) _ _ (c .before .before .before .before .start3 .given .1) (c .before .before .has-qubit .ensures) (c .before .both4 .ensures) (c .both5 .ensures)
+returns c = let a = c .before .before .before .before .before .args in c .both .ensures ∙ ap (λ (b : Bool). leb (a .limits .limit) 1048576 && b) (c .before .is-there .ensures)
 
 pub is-given-spec : {M : Type 1} → statement M
 is-given-spec =
     tie.close
-    (tie.spec
-    (λ c κs. search needs) (λ c. search needs) (λ c κs. search needs) (λ c κs. search needs) (λ c. search needs) (λ c κs. search needs)
-    (λ c. search needs) (λ c κs. search needs) (λ c κs. search needs) (λ c κs. search needs) returns returns-2 returns-3)
+    (tie.spec (λ c κs. search needs) (λ c κs. search needs) returns)

@@ -22,14 +22,14 @@ returns-2 c = let s = c .before .before .before .before .before .before .before 
     alone-tells (a .w) (a .limits) (now (a .keys)) (now (a .weights)) (a .start) (s .pre .0) (s .pre .1) _ (c .before .before .before .before .before .before .before .before .before .start2 .given .1) (c .begun2 .ensures) (c .before .before .before .before .before .single-term .ensures)
 
 returns-3 : tie.Need-returns-3
-returns-3 c = let s = c .before .before .before .before .before .before .before .before .before .before .before .before .before .before .before in
+returns-3 c = let s = c .before .before .before .before .before .before .before .before .before .before .before .before .before .before .before .before in
     let a = s .args in
-    z-tells (a .w) (a .limits) (now (a .keys)) (now (a .weights)) (a .start) (s .pre .0) (s .pre .1) _ _ (c .before .before .before .before .before .before .before .before .start3 .given .1) refl (c .before .before .before .before .start-z .ensures)
+    z-tells (a .w) (a .limits) (now (a .keys)) (now (a .weights)) (a .start) (s .pre .0) (s .pre .1) _ _ (c .before .before .before .before .before .before .before .before .before .start3 .given .1) refl (c .untouched .ensures) (c .before .before .before .before .before .start-z .ensures)
 
 pub start-rows-spec : {M : Type 1} → statement M
 start-rows-spec =
     tie.close
     (tie.spec
     (λ c. search needs) (λ c κs. search needs) (λ c κs. search needs) (λ c. search needs) (λ c κs. search needs) (λ c κs. search needs)
-    (λ c. search needs) start-z-requires (λ c. search needs) (λ c. search needs) (λ c. search needs) returns (λ c. search needs)
+    (λ c. search needs) start-z-requires (λ c κs. search needs) (λ c. search needs) (λ c. search needs) (λ c. search needs) returns (λ c. search needs)
     (λ c. search needs) returns-2 (λ c. search needs) (λ c. search needs) returns-3)

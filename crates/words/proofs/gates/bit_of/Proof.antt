@@ -11,8 +11,8 @@ pub bit-of-spec : {M : Type 1} → statement M
 bit-of-spec =
     tie.close
     (tie.spec
-    (λ c. let a = c .before .args in number-past (now (a .words)) (a .base) (a .i) (omega arith) refl)
-    (λ c. search needs)
     (λ c. let a = c .before .before .args in number-past (now (a .words)) (a .base) (a .i) (omega arith) refl)
-    (λ c. search needs) (λ c. search needs) (λ c. search needs) (λ c. search needs)
-    (λ c. let a = c .before .before .before .args in number-place (now (a .words)) (a .base) (a .i)))
+    (λ c. search needs)
+    (λ c. let a = c .before .before .before .args in number-past (now (a .words)) (a .base) (a .i) (omega arith) refl)
+    (λ c. search needs) (λ c. search needs) (λ c. search needs) (λ c κs. search needs)
+    (λ c. let a = c .before .before .before .before .before .args in number-place (now (a .words)) (a .base) (a .i) (c .word-bit .ensures)))
