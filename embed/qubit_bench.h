@@ -62,7 +62,7 @@ extern "C" {
  *
  * 1  The sheet is not laid out as a sheet is: line L is wrong or missing, or something follows the last line.
  * 2  Too large or empty: qubits are 1 to 256, limit 1 to 1,048,576, terms at most 1,024 and at most limit, ops at most 4,096.
- * 3  Not for this run: `cone` takes one term of weight 1, `all` takes no terms, and noise channels stand only in `path`.
+ * 3  Not for this run: `cone` takes one term of weight 1, `all` takes no terms, and noise channels stand only in `path` and `wide`.
  * 4  A real number is out of its range: epsilon is finite and at least 0, weights are finite, sines and cosines are from -1 to 1, rates from 0 to 1.
  * 5  A qubit of a term or an op is not below `qubits`. Of 5 and 6 the one on the earlier line is given; on one line 5.
  * 6  A qubit stands twice in one term, or in both targets of one op.

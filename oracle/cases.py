@@ -288,6 +288,31 @@ CHANGED += [
     ("2026-02, 9 gives 0", sheet(ops=HT, limit=1), no(9)),
 ]
 
+# 2026-10: `wide`. Each sheet as `path` and as `wide`, with what both answer or, outside the proviso, what each answers.
+DAMP = "damp:%d:" + HALF
+SPREAD = ["Z0", "Z1", MINUS + ":Z0"]
+CROWDED = {"terms": [HALF + ":X0", "Y0"], "ops": ["h:0", "t:0", "h:1"], "qubits": 2, "epsilon": SIX, "max_terms": 1}
+for name, given, lines in [
+    ("channels outside the cone", {"terms": ["Z0"], "ops": [DAMP % 0, DAMP % 1, "depol2:1,2:" + HALF], "qubits": 3}, ok(ONE, 1000, 0, 2, touched=1)),
+    ("a line that cancels", {"terms": SPREAD, "ops": [DAMP % 0, "barrier:", DAMP % 2], "qubits": 3}, ok(ONE, 1000, 0, 3, touched=1)),
+    ("targets that join", {"terms": ["Z1"], "ops": [DAMP % 0, "cx:0,1"], "qubits": 2}, ok(ONE, 1000, 0, 2, touched=2)),
+    ("a fold", {"terms": ["X0", "X1"], "ops": ["t:0", DAMP % 2, "h:1"], "qubits": 3, "limit": 2}, ok(ONE, 1000, 0, 2, touched=2)),
+    ("a start that is not finite", {"terms": [LARGEST + ":X0"] * 2, "ops": ["h:1"], "qubits": 2}, no(8)),
+    ("no terms", {"terms": [], "ops": ["t:0", DAMP % 0]}, ok(peak_terms=0, touched=0)),
+    ("a barrier in a crowd", {"terms": [HALF + ":Z0", "Z1"], "ops": ["barrier:"], "qubits": 2, "epsilon": SIX, "max_terms": 1}, ok(ONE, 1000, 0, 2, 0, HALF)),
+    ("a pair that is no angle, outside the cone", {"terms": ["Z0"], "ops": ["rz:1:%s,%s" % (ONE, ONE)], "qubits": 2}, no(11, 9)),
+    ("a qubit outside", {"terms": ["Z0"], "ops": ["h:2"], "qubits": 2}, no(5, 9)),
+    ("too many terms", {"terms": ["X0"], "ops": ["t:0"], "limit": 1}, no(9)),
+    ("too few rows", {"terms": ["X0"], "limit": 257}, no(7)),
+]:
+    for run in ("path", "wide"):
+        CHANGED.append(("2026-10, %s, as %s" % (name, run), sheet(run=run, **given), lines))
+CHANGED += [
+    ("2026-10, outside the proviso, as path", sheet(run="path", **CROWDED), ok("3fe6a09e667f3bcc", 707, 0, 2, 3, HALF)),
+    ("2026-10, outside the proviso, as wide", sheet(run="wide", **CROWDED), ok("3ff0f876ccdf6cd9", 1061, 0, 2, 3, "3fd6a09e667f3bce")),
+    ("2026-10, max_terms as many as the terms", sheet(run="wide", **dict(CROWDED, max_terms=2)), ok("3ff0f876ccdf6cd9", 1061, 0, 2, 4, "3fd6a09e667f3bce")),
+]
+
 
 def answers(command, texts):
     data = b"".join(b"#sheet %d\n" % len(text) + text for text in texts)

@@ -5,13 +5,16 @@
   generate.py --seed 1 --count 10000 --refused > stream
   generate.py --seed 1 --count 10000 --qubits > stream
   generate.py --seed 1 --count 10000 --angles > stream
+  generate.py --seed 1 --count 10000 --wide [--refused] > stream
 
 The first form writes sheets that pass questions 1 to 7 (but for a few terms
 with one qubit outside or repeated); the second writes sheets with faults of
 every class, 1 to 8, and a few with more than one; the third writes sheets with
 several qubits outside or repeated, on one line and on different ones. With
 --angles most pairs are angles and most Pauli rates sum to at most 1; some are
-the last that question 11 takes, or the first that it does not.
+the last that question 11 takes, or the first that it does not. With --wide
+every sheet is a `path` sheet, with ops outside the cone of its terms mostly,
+and stands twice: as `run=path` and, next, as `run=wide`.
 """
 
 import argparse
@@ -90,6 +93,7 @@ class Maker:
         self.choice = self.random.choice
         self.extreme = False
         self.angles = False
+        self.wide = False
 
     def chance(self, share):
         return self.random.random() < share
@@ -334,6 +338,8 @@ class Maker:
             run = self.choice(["full", "path"])
         if kind == "noise":
             run = "path"
+        if self.wide:
+            run = "path"
         sheet = Sheet(run)
         active = self.active(sheet, kind == "wide", kind == "deep")
         if kind == "wide" and run == "all" and self.chance(0.7):
@@ -344,9 +350,10 @@ class Maker:
             count = self.choice([0, 1, 1, 1, 2, 2, 3, 5, 8])
             if kind == "fold":
                 count = self.choice([2, 2, 3, 4, 6])
-            self.term_lines(sheet, active, count)
+            # With --wide the terms often leave some of the active qubits out.
+            self.term_lines(sheet, active[: self.random.randint(1, len(active))] if self.wide else active, count)
         around = active
-        if self.chance(0.3):
+        if self.chance(0.8 if self.wide else 0.3):
             # Some ops outside the active qubits.
             around = sorted(set(active) | {self.random.randrange(sheet.qubits) for _ in range(2)})
         if kind == "long":
@@ -693,9 +700,11 @@ def main():
     parser.add_argument("--refused", action="store_true")
     parser.add_argument("--qubits", action="store_true")
     parser.add_argument("--angles", action="store_true")
+    parser.add_argument("--wide", action="store_true")
     given = parser.parse_args()
     maker = Maker(given.seed)
     maker.angles = given.angles
+    maker.wide = given.wide
     shares = dict(part.split("=") for part in given.kinds.split(","))
     kinds, weights = list(shares), [float(share) for share in shares.values()]
     out = sys.stdout.buffer
@@ -708,6 +717,8 @@ def main():
         else:
             kind = maker.random.choices(kinds, weights)[0]
             texts = [sheet.text() for sheet in maker.group(kind)]
+        if given.wide:
+            texts = [text.replace(b"\nrun=path\n", b"\nrun=%s\n" % run, 1) for text in texts for run in (b"path", b"wide")]
         for text in texts[: given.count - written]:
             out.write(b"#sheet %d\n" % len(text) + text)
             written += 1

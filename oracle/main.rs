@@ -124,6 +124,25 @@ fn channel(op: &Op) -> NoiseChannel {
     }
 }
 
+/// The ops that the run applies. prism-q has no `wide`: it is its path run of the
+/// ops in the cone grown from the qubits of all terms, an op's targets joining it.
+fn applied(sheet: &Sheet) -> Vec<&Op> {
+    if sheet.run != "wide" {
+        return sheet.ops.iter().collect();
+    }
+    let factors = sheet.terms.iter().flat_map(|term| &term.factors);
+    let mut cone: Vec<u64> = factors.map(|&(_, qubit)| qubit).collect();
+    let mut found = Vec::new();
+    for op in sheet.ops.iter().rev() {
+        if op.targets.iter().any(|qubit| cone.contains(qubit)) {
+            cone.extend(&op.targets);
+            found.push(op);
+        }
+    }
+    found.reverse();
+    found
+}
+
 /// The circuit, its noise, and the pairs of its rotations. Instructions are
 /// pushed as they stand: `Circuit::add_gate` would look at the targets.
 fn load(sheet: &Sheet) -> (Circuit, NoiseModel, Vec<(f64, f64)>) {
@@ -133,7 +152,7 @@ fn load(sheet: &Sheet) -> (Circuit, NoiseModel, Vec<(f64, f64)>) {
     let mut circuit = Circuit::new(sheet.qubits as usize, 0);
     let mut after_gate: Vec<Vec<NoiseEvent>> = Vec::new();
     let mut pairs = Vec::new();
-    for op in &sheet.ops {
+    for op in applied(sheet) {
         let targets = op.targets.iter().map(|&qubit| qubit as usize);
         if sheet::is_channel(op.name) {
             if circuit.instructions.is_empty() {
@@ -171,7 +190,7 @@ fn observables(sheet: &Sheet) -> Vec<(f64, Vec<PauliTerm>)> {
     sheet.terms.iter().map(term).collect()
 }
 
-// ---- the four runs, by prism-q's functions ----
+// ---- the runs, by prism-q's functions ----
 
 fn run(sheet: &Sheet) -> (Result<Answer, PrismError>, hook::Seen) {
     let (circuit, noise, pairs) = load(sheet);

@@ -3,7 +3,7 @@
 
 It speaks the stream format of README.md and takes another way than the code and the oracle: a term is a string of the letters X, Y, Z with a real
 coefficient, the rules of the gates come from their matrices, `shown` and question 11 from fractions. So it shares with them no formula but those of the
-channels, whose order of operations document 01 takes from prism-q. Requests in force: 2026-01, 2026-02, 2026-03, 2026-06.
+channels, whose order of operations document 01 takes from prism-q. Requests in force: 2026-01, 2026-02, 2026-03, 2026-06, 2026-10.
 """
 
 import fractions
@@ -88,7 +88,7 @@ def op(text):
 
 
 def run_name(text):
-    if text not in (b"full", b"cone", b"all", b"path"):
+    if text not in (b"full", b"cone", b"all", b"path", b"wide"):
         raise Bad
     return text.decode()
 
@@ -156,13 +156,17 @@ def question_2(s):
         raise Refused(2, s.op_line(-1))
 
 
+def counts_as_path(s):
+    return s.run in ("path", "wide")
+
+
 def question_3(s):
     if s.run == "cone" and len(s.terms) != 1 or s.run == "all" and s.terms:
         raise Refused(3, 6)
     if s.run == "cone" and s.terms[0][0] != 1.0:
         raise Refused(3, 7)
     for at, (name, _, _) in enumerate(s.ops):
-        if name in CHANNELS and s.run != "path":
+        if name in CHANNELS and not counts_as_path(s):
             raise Refused(3, s.op_line(at))
 
 
@@ -452,9 +456,10 @@ def start(s, rows):
 def marks(s):
     if s.run == "path":
         return [name != "barrier" for name, _, _ in s.ops]
-    if s.run != "cone":
+    if s.run not in ("cone", "wide"):
         return [True] * len(s.ops)
-    cone, found = {q for _, q in s.terms[0][1]}, [False] * len(s.ops)
+    # From every `term` line, whatever its weight: `cone` has one.
+    cone, found = {q for _, letters in s.terms for _, q in letters}, [False] * len(s.ops)
     for at in reversed(range(len(s.ops))):
         if cone & set(s.ops[at][1]):
             found[at] = True
@@ -463,7 +468,7 @@ def marks(s):
 
 
 def sum_run(s):
-    """The mean, the tally and the rows of full, cone and path."""
+    """The mean, the tally and the rows of full, cone, path and wide."""
     marked = marks(s)
     rows = merged(s.terms)
     total, tally = start(s, rows)
@@ -533,7 +538,7 @@ def answer(text):
         s = Sheet(text)
         for question in (question_2, question_3, question_4, question_11, questions_5_and_6, question_7):
             question(s)
-        t_count = 0 if s.run == "path" else sum(name in ROTATIONS for name, _, _ in s.ops)
+        t_count = 0 if counts_as_path(s) else sum(name in ROTATIONS for name, _, _ in s.ops)
         if s.run == "all":
             means, tally = all_run(s)
             return lines(0, 0, 0.0, t_count, tally) + ["z=" + digits(mean) for mean in means]

@@ -53,7 +53,7 @@ const NAMES: [(&str, usize, usize); 24] = [
     ("depol2", 2, 1),
 ];
 
-const RUNS: [&str; 4] = ["full", "cone", "all", "path"];
+const RUNS: [&str; 5] = ["full", "cone", "all", "path", "wide"];
 
 pub fn is_channel(name: &str) -> bool {
     matches!(
@@ -260,7 +260,7 @@ pub fn question_3(sheet: &Sheet) -> Option<usize> {
         "cone" if terms != 1 => return Some(6),
         "cone" if sheet.terms[0].weight != 1.0 => return Some(7),
         "all" if terms != 0 => return Some(6),
-        "path" => return None,
+        "path" | "wide" => return None,
         _ => {}
     }
     let op = sheet.ops.iter().position(|op| is_channel(op.name))?;

@@ -8,6 +8,7 @@
   speed.py OUT --bare               the Rust without question 8
   speed.py OUT --once KIND ours|rust N
   speed.py OUT --counts             instructions for each sheet, by callgrind
+  speed.py OUT --wide               instructions of ours, `path` beside `wide`
 
 The sheets are made from fixed seeds and kept in OUT/sheets, a file for each
 kind (speed.rs says what such a file is). Times are microseconds of processor
@@ -94,6 +95,17 @@ class Circuit:
                 self.add("rzz", [first, second], self.angle())
         return self
 
+    def noisy_layers(self, count):
+        """A gate and a channel on every qubit and between neighbours."""
+        for layer in range(count):
+            for qubit in self.active:
+                self.add(self.random.choice(["h", "sx", "t"]), [qubit])
+                self.add(self.random.choice(["depol", "damp", "phase"]), [qubit], [self.random.uniform(1e-4, 1e-3)])
+            for first, second in list(zip(self.active, self.active[1:]))[layer % 2 :: 2]:
+                self.add(self.random.choice(["cx", "cz"]), [first, second])
+                self.add("depol2", [first, second], [self.random.uniform(1e-4, 1e-3)])
+        return self
+
     def sheet(self, qubits, run, limit, terms=(), max_terms=0, epsilon=0.0):
         lines = ["qubits=%d" % qubits, "run=" + run, "epsilon=" + bits(epsilon)]
         lines += ["max_terms=%d" % max_terms, "limit=%d" % limit, "terms=%d" % len(terms)]
@@ -156,6 +168,11 @@ def noisy(seed, active, qubits):
     return [circuit.sheet(qubits, "path", 256, ["Z%d" % active[0], "X%d,Y%d" % tuple(active[1:3])])]
 
 
+def spread(seed, qubits, run, terms):
+    """Terms on few of the qubits of a noisy circuit."""
+    return [Circuit(seed, list(range(qubits))).noisy_layers(2).sheet(qubits, run, 256, terms)]
+
+
 def every(seed, qubits, layers, limit):
     return [Circuit(seed, list(range(qubits))).layers(layers).sheet(qubits, "all", limit)]
 
@@ -179,6 +196,16 @@ KINDS = {
     "peak-7e5": (2 * MOST, 40, lambda out: grown(1, 40, 706)),
 }
 SMALL = ["small", "given", "refused"]
+COMPARED = list(KINDS)
+# The same sheet as `path` and as `wide`, which prism-q does not have.
+TERMS = {
+    "1": ["Z100"],
+    "3": ["Z0", "X100,Z101", "Y200"],
+    "64": ["%s100,%s101,%s102" % (a, b, c) for a in "XYZ" for b in "XYZ" for c in "XYZ"] + ["Z%d,Z%d" % (i, i + 1) for i in range(99, 136)],
+}
+for count in TERMS:
+    for run in ("path", "wide"):
+        KINDS["%s-terms-%s" % (run, count)] = (512, 256, lambda out, run=run, count=count: spread(1, 256, run, TERMS[count]))
 
 
 def write(file, rows, qubits, sheets):
@@ -222,6 +249,16 @@ def counts(out, program, kinds):
         print("%-12s %6d %19.0f %19.0f %7.2f" % (kind, count, ours, rust, ours / rust), flush=True)
 
 
+def beside(out, program):
+    print("terms   path instructions   wide instructions   ratio")
+    for count in TERMS:
+        path, wide = (
+            instructions(program, "ours", 2, file) - instructions(program, "ours", 1, file)
+            for file, _ in (made(out, "%s-terms-%s" % (run, count)) for run in ("path", "wide"))
+        )
+        print("%5s %19d %19d %7.2f" % (count, path, wide, path / wide), flush=True)
+
+
 def main():
     parser = argparse.ArgumentParser(description=__doc__, formatter_class=argparse.RawTextHelpFormatter)
     parser.add_argument("out")
@@ -230,9 +267,12 @@ def main():
     parser.add_argument("--bare", action="store_true")
     parser.add_argument("--once", nargs=3, metavar=("KIND", "SIDE", "N"))
     parser.add_argument("--counts", action="store_true")
+    parser.add_argument("--wide", action="store_true")
     given = parser.parse_args()
     program = os.path.join(given.out, "speed")
-    kinds = given.kinds.split(",") if given.kinds else SMALL if given.counts else list(KINDS)
+    kinds = given.kinds.split(",") if given.kinds else SMALL if given.counts else COMPARED
+    if given.wide:
+        return beside(given.out, program)
     if given.counts:
         return counts(given.out, program, kinds)
     if given.once:

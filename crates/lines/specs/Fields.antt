@@ -12,7 +12,7 @@ use Rattle.text.specs.declared.Real.the-variants.{Value, NotReal}
 use Rattle.text.specs.Bytes.{bytes, begins, same}
 use Rattle.text.specs.Numerals.{decimal, real}
 use Rattle.runs.specs.declared.Run.{Run}
-use Rattle.runs.specs.declared.Run.the-variants.{Full, Cone, All, Path}
+use Rattle.runs.specs.declared.Run.the-variants.{Full, Cone, All, Path, Wide}
 use Rattle.lines.specs.declared.RunRead.{RunRead}
 use Rattle.lines.specs.declared.RunRead.the-variants.{IsRun, NotRun}
 
@@ -39,13 +39,14 @@ abbrev pub orZeroReal : Real → Float
 orZeroReal (Value x) = x
 orZeroReal NotReal = zero64
 
--- "`full`, `cone`, `all`, `path`"
+-- "`full`, `cone`, `all`, `path`", and "`run=wide`"
 unfoldable pub runField : List ℕ → RunRead
 runField l =
     cond (same (bytes "run=full") l) (IsRun Full)
     (cond (same (bytes "run=cone") l) (IsRun Cone)
     (cond (same (bytes "run=all") l) (IsRun All)
-    (cond (same (bytes "run=path") l) (IsRun Path) NotRun)))
+    (cond (same (bytes "run=path") l) (IsRun Path)
+    (cond (same (bytes "run=wide") l) (IsRun Wide) NotRun))))
 
 abbrev pub isRun : RunRead → Bool
 isRun (IsRun r) = true

@@ -47,6 +47,9 @@ pub fn read_run(l: &[u8]) -> RunRead
     if is_text(l, b"run=path") {
         return RunRead::IsRun(Run::Path);
     }
+    if is_text(l, b"run=wide") {
+        return RunRead::IsRun(Run::Wide);
+    }
     RunRead::NotRun
 }
 

@@ -34,7 +34,7 @@ use Rattle.runs.specs.Outcome.{termsOf, startOf, foldLines, outcomeOf}
 use Rattle.runs.specs.LightCone.{coneMarks}
 
 -- opens the definitions that the cases compute
-unfoldable computed : Unit {0}
+unfoldable pub computed : Unit {0}
 unfolding cutOf neg add sub mul lt le eq ofBits sqrtOf shownOf bitOf flipOf bitAt flipAt allZero sameKey conjKey foldl turnedOf sizeOf find isIn addTo
     conjugated allFinite countY termOf share metBy partnerBy appendedRows rotated dampAction actionOf insert scaledLocal channeled keptOf tCount onWords act
     checked settle ended finish runs markedRun member touches coneOf markCone every lettersBelow question2 question3 question4 question11 question5 question6 termsOf foldLines
@@ -42,20 +42,20 @@ unfolding cutOf neg add sub mul lt le eq ofBits sqrtOf shownOf bitOf flipOf bitA
 computed = tt
 
 -- a real number by its bits
-abbrev real : ℕ → Float
+abbrev pub real : ℕ → Float
 real b = ofBits binary64 b
 
 -- the words of one or two qubits: an x-word and a z-word
-abbrev word : ℕ → ℕ → Key
+abbrev pub word : ℕ → ℕ → Key
 word x z = x ∷ z ∷ []
 
-abbrev line : Key → Float → Line
+abbrev pub line : Key → Float → Line
 line k f = record { key = k; weight = f }
 
-abbrev limits : Float → ℕ → ℕ → Limits
+abbrev pub limits : Float → ℕ → ℕ → Limits
 limits e m n = record { epsilon = e; «max_terms» = m; limit = n }
 
-abbrev task : ℕ → Limits → List Line → List Op → Task
+abbrev pub task : ℕ → Limits → List Line → List Op → Task
 task n l ls ops = record { qubits = n; limits = l; lines = ls; ops = ops }
 
 -- the terms, mean, peak, discarded weight and touched of a run that succeeds
@@ -68,7 +68,7 @@ pub record Case (r : Run) (t : Task) (end : Stage Outcome) : Type 0 where
   pub ended : outcomeOf r t ≡ end
 
 -- A's limits with another limit, its one term and its ops
-abbrev usual : ℕ → Limits
+abbrev pub usual : ℕ → Limits
 usual n = limits zero64 0 n
 
 abbrev x0 : List Line

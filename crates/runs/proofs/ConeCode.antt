@@ -58,7 +58,7 @@ letters-first w keys =
 below-all : (n : ℕ) (qs : List ℕ) → n ≤ 256 → All (λ q. q < 64 * widthOf n) qs → All (λ q. q < 256) qs
 below-all n qs few h = all-imp (λ q. q < 64 * widthOf n) (λ q. q < 256) qs (λ q b. omega (arith, b, few)) h
 
-targets-below : (t : Task) → t .qubits ≤ 256 → question5 t ≡ true → TargetsBelow (t .ops)
+pub targets-below : (t : Task) → t .qubits ≤ 256 → question5 t ≡ true → TargetsBelow (t .ops)
 targets-below t few h =
     all-imp (λ op. Within (width t) (targets op)) (λ op. All (λ q. q < 256) (targets op)) (t .ops) (λ op. below-all (t .qubits) (targets op) few) (targets-within t h)
 

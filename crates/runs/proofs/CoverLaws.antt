@@ -14,7 +14,7 @@ use Rattle.turns.proofs.MarkLaws.{TargetsBelow, letters-marks}
 use Rattle.runs.specs.Task.{lettersBelow, qubitsOf}
 
 -- a qubit is listed below n if it is below n and the word has a letter there
-member-below : (w : ℕ) (k : Key) (n q : ℕ) → member q (lettersBelow w n k) ≡ (ltb q n && hasLetter w k q)
+pub member-below : (w : ℕ) (k : Key) (n q : ℕ) → member q (lettersBelow w n k) ≡ (ltb q n && hasLetter w k q)
 unfolding lettersBelow member
 member-below w k zero q = ap (λ (b : Bool). b && hasLetter w k q) (sym (le-ltb q zero (omega arith)))
 member-below w k (suc n) q = go (hasLetter w k n) refl (eqb q n) refl (member-below w k n q)

@@ -3,3 +3,4 @@ pub mod Outcome
 pub mod Table
 pub mod Means
 pub mod LightCone
+pub mod Wide

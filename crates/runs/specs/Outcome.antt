@@ -1,4 +1,4 @@
--- The four runs of a task that the questions before a run passed.
+-- The runs of a task that the questions before a run passed.
 use Prim.Native.Nat.{ℕ, zero, suc, _+_, max}
 use mathlib.Core.Bool.{Bool, cond, _&&_}
 use mathlib.Core.List.{List, [], _∷_, _++_}
@@ -16,7 +16,7 @@ use Rattle.turns.specs.declared.Limits.{Limits}
 use Rattle.turns.specs.Turn.{Stage, refused, going, bind, ask, State, state, Outcome, outcome}
 use Rattle.turns.specs.Runs.{markAll, markPath, markCone, markedRun, begin}
 use Rattle.runs.specs.declared.Run.{Run}
-use Rattle.runs.specs.declared.Run.the-variants.{Full, Cone, All, Path}
+use Rattle.runs.specs.declared.Run.the-variants.{Full, Cone, All, Path, Wide}
 use Rattle.runs.specs.Task.{Line, Task, width, qubitsOf}
 
 -- the terms of the lines, and the terms that a run starts from
@@ -94,16 +94,27 @@ firstLetters w (l ∷ ls) = qubitsOf w (l .key)
 abbrev pub observed : Task → List ℕ
 observed t = firstLetters (width t) (t .lines)
 
--- `full`, `cone`, `path` and `all`
+-- "grown from all its terms' qubits": of every `term` line, those that cancel in merging too
+unfoldable pub allLetters : ℕ → List Line → List ℕ
+allLetters w [] = []
+allLetters w (l ∷ ls) = qubitsOf w (l .key) ++ allLetters w ls
+
+-- `wide`: "skips every op with no target in the cone"
+abbrev pub wideMarks : Task → List Bool
+wideMarks t = markCone (allLetters (width t) (t .lines)) (t .ops)
+
+-- `full`, `cone`, `path`, `wide` and `all`. "folded lines use the same marks"
 abbrev pub outcomeOf : Run → Task → Stage Outcome
 outcomeOf Full t = sumRun t (markAll (t .ops))
 outcomeOf Cone t = sumRun t (markCone (observed t) (t .ops))
 outcomeOf Path t = sumRun t (markPath (t .ops))
+outcomeOf Wide t = sumRun t (wideMarks t)
 outcomeOf All t = allRuns t (t .qubits)
 
--- "t_count: t, tdg, rz, p, rzz in the whole list; 0 for `path`"
+-- "t_count: t, tdg, rz, p, rzz in the whole list; 0 for `path`"; `wide` "counts as `path` in every rule"
 abbrev pub tCountOf : Run → List Op → ℕ
 tCountOf Full ops = tCount ops
 tCountOf Cone ops = tCount ops
 tCountOf All ops = tCount ops
 tCountOf Path ops = 0
+tCountOf Wide ops = 0

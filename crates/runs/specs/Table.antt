@@ -1,6 +1,6 @@
 -- A task in lent memory: line l of the table has the 2 * W words from l * 2 * W on, and weight l. And what the answers of the fold stand for.
 use mathlib.Core.Path.{_≡_}
-use Prim.Native.Nat.{ℕ, _+_, _*_, _≤_, max}
+use Prim.Native.Nat.{ℕ, _+_, _*_, _/_, _≤_, min, max}
 use mathlib.Core.Bool.{Bool, true, false, _&&_}
 use mathlib.Core.List.{List, []}
 use lib.Dec.{leb, ltb, eqb}
@@ -21,11 +21,11 @@ use Rattle.turns.specs.Given.{isGiven, isHeld}
 use Rattle.turns.specs.Told.{tally, endingOf, leftBy, Ran}
 use Rattle.runs.specs.declared.fold.Folded.{Folded}
 use Rattle.runs.specs.declared.fold.Folded.the-variants.{Ended, Held}
-use Rattle.turns.specs.Marks.{coneMarks, lettersIn}
+use Rattle.turns.specs.Marks.{coneMarks, lettersIn, lettersInAny}
 use Rattle.turns.specs.Runs.{markCone}
-use Rattle.runs.specs.declared.Run.the-variants.{Cone}
+use Rattle.runs.specs.declared.Run.the-variants.{Cone, Wide}
 use Rattle.runs.specs.Task.{Line, Task, passes}
-use Rattle.runs.specs.Outcome.{observed, sumRun}
+use Rattle.runs.specs.Outcome.{observed, wideMarks, sumRun}
 
 abbrev pub lineAt : ℕ → List ℕ → List Float → ℕ → Line
 lineAt w keys weights l = record { key = keyAt (2 * w) keys l; weight = getD weights l nan }
@@ -48,6 +48,11 @@ SumRan qubits l keys weights k ops ms r ws ws′ cs cs′ ix ix′ =
 pub record ConeRan (qubits : ℕ) (l : Limits) (keys : List ℕ) (weights : List Float) (k : ℕ) (ops : List Op) (r : Ending) (ws ws′ : List ℕ) (cs cs′ : List Float) (ix ix′ : List ℕ) : Type 0 where
   pub always : SumRan qubits l keys weights k ops (coneMarks (lettersIn (widthOf qubits) keys) ops) r ws ws′ cs cs′ ix ix′
   pub cone : let t = taskIn qubits l keys weights k ops in passes Cone t ≡ true → SumRan qubits l keys weights k ops (markCone (observed t) ops) r ws ws′ cs cs′ ix ix′
+
+-- `wide`, as it is marked by a set of 256 qubits; and, for a task that the questions pass as `wide` and whose lines the table has, by the document's set
+pub record WideRan (qubits : ℕ) (l : Limits) (keys : List ℕ) (weights : List Float) (k : ℕ) (ops : List Op) (r : Ending) (ws ws′ : List ℕ) (cs cs′ : List Float) (ix ix′ : List ℕ) : Type 0 where
+  pub always : let w = widthOf qubits in SumRan qubits l keys weights k ops (coneMarks (lettersInAny w keys (min k (length keys / (2 * w)))) ops) r ws ws′ cs cs′ ix ix′
+  pub wide : let t = taskIn qubits l keys weights k ops in passes Wide t ≡ true → k ≤ length keys / (2 * widthOf qubits) → SumRan qubits l keys weights k ops (wideMarks t) r ws ws′ cs cs′ ix ix′
 
 -- ---- the fold
 

@@ -15,7 +15,7 @@ use Rattle.turns.specs.declared.Op.the-variants.{Native, T, Tdg, Rz, P, Rzz}
 use Rattle.turns.specs.declared.Op.the-variants.{Pauli, Depol, Damp, Phase, Thermal, Depol2, Barrier}
 use Rattle.turns.specs.Ops.{Sort, gate, rotation, channel, barrier, shapeOf, targets}
 use Rattle.runs.specs.declared.Run.{Run}
-use Rattle.runs.specs.declared.Run.the-variants.{Full, Cone, All, Path}
+use Rattle.runs.specs.declared.Run.the-variants.{Full, Cone, All, Path, Wide}
 
 -- a `term` line: the word of its factors, and its weight
 pub record Line : Type 0 where
@@ -50,7 +50,7 @@ question2 t =
     leb 1 (t .qubits) && leb (t .qubits) 256 && (leb 1 (t .limits .limit) && leb (t .limits .limit) 1048576)
     && (leb (length (t .lines)) 1024 && leb (length (t .lines)) (t .limits .limit) && leb (length (t .ops)) 4096)
 
--- 3. "Does `cone` have one term of weight 1.0, `all` no terms, and do channels stand only in `path`?"
+-- 3. "Does `cone` have one term of weight 1.0, `all` no terms, and do channels stand only in `path`?" `wide` "counts as `path`" (2026-10)
 abbrev pub isOne : List Line → Bool
 isOne [] = false
 isOne (l ∷ []) = eq (l .weight) one64
@@ -71,6 +71,7 @@ question3 Full t = channelFree t
 question3 Cone t = isOne (t .lines) && channelFree t
 question3 All t = eqb (length (t .lines)) 0 && channelFree t
 question3 Path t = true
+question3 Wide t = true
 
 -- 4. "Are epsilon finite and at least 0, weights finite, sines and cosines from -1 to 1, rates and excited from 0 to 1?"
 abbrev pub realFits : Sort → Float → Bool

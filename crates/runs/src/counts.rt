@@ -5,7 +5,7 @@ ghost use Rattle.runs.specs.Outcome.{tCountOf};
 use crate::Run;
 use turns::marks::t_count;
 
-// The rotations among the first n ops; none are counted for `path`.
+// The rotations among the first n ops; none are counted for `path` and `wide`.
 pub fn run_t_count(run: Run, codes: &[usize], reals: &[f64], n: usize) -> usize
     ensures { λ r. ⌜ r ≡ tCountOf run (opList n (now (codes .entry)) (now (reals .entry))) ⌝ }
 {
@@ -14,5 +14,6 @@ pub fn run_t_count(run: Run, codes: &[usize], reals: &[f64], n: usize) -> usize
         Run::Cone => t_count(codes, reals, n),
         Run::All => t_count(codes, reals, n),
         Run::Path => 0,
+        Run::Wide => 0,
     }
 }

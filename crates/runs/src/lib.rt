@@ -1,4 +1,4 @@
-// The four runs of a sheet's values: full, cone, all and path, and the fold.
+// The runs of a sheet's values: full, cone, all, path and wide, and the fold.
 
 pub mod all;
 pub mod counts;
@@ -12,4 +12,5 @@ pub enum Run {
     Cone,
     All,
     Path,
+    Wide,
 }

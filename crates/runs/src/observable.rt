@@ -2,7 +2,7 @@
 ghost use mathlib.Core.Path.{_≡_};
 ghost use Rattle.turns.specs.OpList.{opList};
 ghost use Rattle.turns.specs.Runs.{markAll, markPath};
-ghost use Rattle.runs.specs.Table.{meetsNine, SumRan, ConeRan};
+ghost use Rattle.runs.specs.Table.{meetsNine, SumRan, ConeRan, WideRan};
 use crate::fold;
 use crate::width::width;
 use turns::Ending;
@@ -11,6 +11,7 @@ use turns::Start;
 use turns::marks::full_marks;
 use turns::marks::inverse_light_cone;
 use turns::marks::path_marks;
+use turns::marks::wide_marks;
 use turns::run::run_marked;
 
 // Whether a sum of so many lines is folded: it met 9.
@@ -165,6 +166,41 @@ pub fn run_pauli_path_weighted_observable(
 {
     let mut marks = [false; 4096];
     path_marks(codes, reals, n, &mut marks);
+    run_sum(
+        qubits,
+        keys,
+        weights,
+        lines,
+        codes,
+        reals,
+        n,
+        &marks,
+        limits,
+        words,
+        coeffs,
+        index,
+    )
+}
+
+// `wide`: the ops in the cone grown from the words of all lines, as far as the table has them.
+pub fn run_pauli_path_light_cone(
+    qubits: usize,
+    keys: &[u64],
+    weights: &[f64],
+    lines: usize,
+    codes: &[usize],
+    reals: &[f64],
+    n: usize,
+    limits: Limits,
+    words: &mut [u64],
+    coeffs: &mut [f64],
+    index: &mut [u32],
+) -> Ending
+    ensures { λ r. ⌜ WideRan qubits limits (now (keys .entry)) (now (weights .entry)) lines (opList n (now (codes .entry)) (now (reals .entry))) r
+        (now (words .entry)) (now (words .exit)) (now (coeffs .entry)) (now (coeffs .exit)) (now (index .entry)) (now (index .exit)) ⌝ }
+{
+    let mut marks = [false; 4096];
+    wide_marks(codes, reals, n, width(qubits), keys, lines, &mut marks);
     run_sum(
         qubits,
         keys,

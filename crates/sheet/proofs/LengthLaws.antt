@@ -16,7 +16,7 @@ use Rattle.text.specs.Numerals.{decimalText, natText}
 use Rattle.text.proofs.SpellLaws.{length-hexText}
 use Rattle.turns.specs.Turn.{Stage, refused, going, Outcome}
 use Rattle.runs.specs.declared.Run.{Run}
-use Rattle.runs.specs.declared.Run.the-variants.{Full, Cone, All, Path}
+use Rattle.runs.specs.declared.Run.the-variants.{Full, Cone, All, Path, Wide}
 use Rattle.layout.specs.declared.Head.{Head}
 use Rattle.layout.specs.Layout.{headOf}
 use Rattle.replies.specs.declared.Reply.{Reply}
@@ -88,6 +88,7 @@ means-few Full q (going o) e h = omega (arith, e)
 means-few Cone q (going o) e h = omega (arith, e)
 means-few All q (going o) e h = omega (arith, e, h)
 means-few Path q (going o) e h = omega (arith, e)
+means-few Wide q (going o) e h = omega (arith, e)
 
 means-held : (h : Head) (ls : List (List ℕ)) (v : Verdict) → verdict h ls 512 256 ≡ v → length (meansTo h ls v) ≤ 256
 means-held h ls (RefusedAt n k) e = omega arith

@@ -14,7 +14,7 @@ use Rattle.turns.specs.Runs.{runs, markedRun, markAll, begin}
 use Rattle.turns.specs.Told.{endingOf, leftBy}
 use Rattle.terms.specs.Mean.{meanOf}
 use Rattle.runs.specs.declared.Run.{Run}
-use Rattle.runs.specs.declared.Run.the-variants.{Full, Cone, All, Path}
+use Rattle.runs.specs.declared.Run.the-variants.{Full, Cone, All, Path, Wide}
 use Rattle.runs.specs.Task.{Line, Task, width}
 use Rattle.runs.specs.Outcome.{startOf, nothingYet, addLine, alone, foldLines, folded, askTotals, orFold, sumRun, zState, addZ, zStep, allRuns, outcomeOf, tCountOf}
 use Rattle.sheet.specs.Answer.{replyRun}
@@ -110,6 +110,7 @@ outcome-means Full t = sum-means t _
 outcome-means Cone t = sum-means t _
 outcome-means All t = all-means t (t .qubits)
 outcome-means Path t = sum-means t _
+outcome-means Wide t = sum-means t _
 
 pub reply-of-end : (r : Run) (t : Task) (ops : List Op) → replyEnd r (t .qubits) (tCountOf r ops) (endingOf (outcomeOf r t)) ≡ replyRun r ops (outcomeOf r t)
 reply-of-end r t ops = go (outcomeOf r t) (outcome-means r t)

@@ -17,7 +17,7 @@ use Rattle.terms.proofs.AllLaws.{all-map}
 use Rattle.text.specs.Bytes.{bytes}
 use Rattle.turns.specs.declared.Op.{Op}
 use Rattle.runs.specs.declared.Run.{Run}
-use Rattle.runs.specs.declared.Run.the-variants.{Full, Cone, All, Path}
+use Rattle.runs.specs.declared.Run.the-variants.{Full, Cone, All, Path, Wide}
 use Rattle.runs.specs.Task as values
 use Rattle.runs.specs.Task.{Line, Task, every, qubitsOf, isOne, pairHolds, passes}
 use Rattle.runs.specs.LightCone.{IsBinary64, RealsAreBinary64, Binary64Values}
@@ -216,6 +216,7 @@ three-passes Full n w ls t k e c f g = g
 three-passes Cone n w ls t k e c f g = ap₂ _&&_ (ap isOne k ∙ one-line w ls (e ∙ eqb-true n 1 c) f) g
 three-passes All n w ls t k e c f g = ap₂ _&&_ (ap (λ (l : List Line). eqb (length l) 0) k ∙ ap (λ (m : ℕ). eqb m 0) (length-map ls (wordLine w) ∙ e) ∙ c) g
 three-passes Path n w ls t k e c f g = refl
+three-passes Wide n w ls t k e c f g = refl
 
 module _ (h : Head) (ls : List (List ℕ)) (rows places : ℕ) (a : Answers h ls rows places) where
   abbrev width : ℕ

@@ -1,6 +1,6 @@
--- The run of a sheet, from the contracts of the four runs. Assumes nothing.
+-- The run of a sheet, from the contracts of the public runs. Assumes nothing.
 use mathlib.Core.Path.{_≡_, refl, sym, ap, ap₂, _∙_, subst}
-use Prim.Native.Nat.{ℕ, _*_}
+use Prim.Native.Nat.{ℕ, _*_, _/_}
 use mathlib.Core.Bool.{Bool, true, cond, _&&_}
 use mathlib.Core.List.{List, [], _++_}
 use lib.Dec.{leb, eqb}
@@ -10,7 +10,7 @@ use lib.Ieee.{Float}
 use mir.Syntax.{w64}
 use mir.Val.{SFits, toZ, ofZ}
 use mir.ValLaws.{toZ-ofZ}
-use borrow.Author.Tests.{eqb-true}
+use borrow.Author.Tests.{eqb-true, leb-true}
 use Rattle.numbers.specs.Shown.{shownOf}
 use Rattle.words.specs.Keys.{widthOf}
 use Rattle.terms.specs.Lists.{tab}
@@ -28,10 +28,10 @@ use Rattle.turns.specs.Told.{endingOf, leftBy}
 use Rattle.turns.specs.Given.{isHeld}
 use Rattle.turns.specs.Runs.{markAll, markPath, markCone}
 use Rattle.runs.specs.declared.Run.{Run}
-use Rattle.runs.specs.declared.Run.the-variants.{Full, Cone, All, Path}
+use Rattle.runs.specs.declared.Run.the-variants.{Full, Cone, All, Path, Wide}
 use Rattle.runs.specs.Task.{Task, passes, question2, question3, channelFree}
 use Rattle.runs.specs.Outcome.{outcomeOf, sumRun, observed, allRuns}
-use Rattle.runs.specs.Table.{lineAt, sumAsked, SumRan, ConeRan}
+use Rattle.runs.specs.Table.{lineAt, sumAsked, SumRan, ConeRan, WideRan}
 use Rattle.runs.specs.Means.{allTask, fitsAll, roomAll, allHeld, allAsked, meansOf, AllRan}
 use Rattle.layout.specs.declared.Head.{Head}
 use Rattle.replies.specs.declared.Reply.{Reply}
@@ -101,6 +101,13 @@ module _ (h : Head) (keys : List ℕ) (weights : List Float) (os : List Op) (ws 
   cone-ended l el {r} {ws′} {cs′} {ix′} given e =
       let ran = subst (λ (x : Limits). ConeRan (h .qubits) x keys weights (h .terms) os r ws ws′ cs cs′ ix ix′) el given in
       marked-ended (limitsOf h) refl _ (ran .cone (sym (ap (λ (x : Run). passes x t) e) ∙ ok .pass)) Cone e refl refl
+
+  pub wide-ended : (l : Limits) → l ≡ limitsOf h → {r : Ending} {ws′ : List ℕ} {cs′ : List Float} {ix′ : List ℕ} → WideRan (h .qubits) l keys weights (h .terms) os r ws ws′ cs cs′ ix ix′
+      → h .run ≡ Wide → Ended h (tableRun h keys weights os) r ws ws′ cs cs′ m m ix ix′
+  wide-ended l el {r} {ws′} {cs′} {ix′} given e =
+      let ran = subst (λ (x : Limits). WideRan (h .qubits) x keys weights (h .terms) os r ws ws′ cs cs′ ix ix′) el given in
+      let there = and-true (leb (h .terms) (h .limit)) _ (and-true (leb (h .limit) 1048576) _ (ok .given) .1) .1 in
+      marked-ended (limitsOf h) refl _ (ran .wide (sym (ap (λ (x : Run). passes x t) e) ∙ ok .pass) (leb-true (h .terms) _ (and-true (leb (h .terms) (length keys / (2 * w))) _ there .0))) Wide e refl refl
 
   -- ---- `all`, which has no terms
   module _ (e : h .run ≡ All) where

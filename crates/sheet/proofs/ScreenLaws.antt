@@ -16,7 +16,7 @@ use Rattle.text.specs.Bytes.{parts, newline}
 use Rattle.turns.specs.declared.Op.{Op}
 use Rattle.turns.specs.Turn.{Stage, refused, going, Outcome}
 use Rattle.runs.specs.declared.Run.{Run}
-use Rattle.runs.specs.declared.Run.the-variants.{Full, Cone, All, Path}
+use Rattle.runs.specs.declared.Run.the-variants.{Full, Cone, All, Path, Wide}
 use Rattle.layout.specs.declared.Head.{Head}
 use Rattle.layout.specs.Layout.{headOf, termLines, opList}
 use Rattle.replies.specs.declared.Reply.{Reply}
@@ -82,6 +82,7 @@ means-first Cone q o ms ms′ n e = none-first (length (o .means)) ms′ (o .mea
 means-first All q o ms ms′ n e =
     ap (take (length (o .means))) e ∙ take-append-seam (o .means) (drop q ms) ∙ sym (take-length (o .means))
 means-first Path q o ms ms′ n e = none-first (length (o .means)) ms′ (o .means) n
+means-first Wide q o ms ms′ n e = none-first (length (o .means)) ms′ (o .means) n
 
 run-printed : (h : Head) (ops : List Op) (run : Stage Outcome) (ms ms′ : List Float) → HasMeans (meansCount (h .run) (h .qubits)) run
     → ms′ ≡ meansAfter (h .run) (h .qubits) run ms → printed (replyRun (h .run) ops run) ms′ ≡ printed (replyRun (h .run) ops run) (meansRun run)

@@ -33,7 +33,7 @@ use Rattle.sheet.specs.SheetCone.{runLine, rejoined, bytesAs, these, Pas
 use Rattle.sheet.proofs.PassLaws.{answers-of, passed-passes, sheet-values-are}
 
 -- ---- lines have no byte 10 in them
-abbrev Clean : List ℕ → Type 0
+abbrev pub Clean : List ℕ → Type 0
 Clean p = All (λ (b : ℕ). eqb b newline ≡ false) p
 
 clean-first : (b : ℕ) (ps : List (List ℕ)) → eqb b newline ≡ false → All Clean ps → All Clean (onFirst b ps)
@@ -98,13 +98,14 @@ parts-rejoined (p ∷ []) h k = parts-one p (k .0)
 parts-rejoined (p ∷ q ∷ ps) h k = parts-cut p (rejoined (q ∷ ps)) (k .0) ∙ ap {B = List (List ℕ)} (λ (r : List (List ℕ)). p ∷ r) (parts-rejoined (q ∷ ps) tt (k .1))
 
 -- the lines of a sheet with another second line
+pub lines-with : (l : List ℕ) → Clean l → (s : List ℕ) → parts newline (rejoined (set (parts newline s) 1 l)) ≡ set (parts newline s) 1 l
+lines-with l c s = let ls = parts newline s in parts-rejoined (set ls 1 l) (some-set ls 1 l (some-parts s)) (clean-set ls 1 l c (clean-parts s))
+
 pub lines-as : (v : Way) (s : List ℕ) → parts newline (bytesAs v s) ≡ set (parts newline s) 1 (runLine v)
-lines-as v s =
-    let ls = parts newline s in
-    parts-rejoined (set ls 1 (runLine v)) (some-set ls 1 (runLine v) (some-parts s)) (clean-set ls 1 (runLine v) (clean-run v) (clean-parts s))
+lines-as v s = lines-with (runLine v) (clean-run v) s
 
 -- ---- "the other lines as they are": the second line says which run, and nothing else of the task
-same-task : (ls : List (List ℕ)) (l : List ℕ) → taskOf (headOf (set ls 1 l)) (set ls 1 l) ≡ taskOf (headOf ls) ls
+pub same-task : (ls : List (List ℕ)) (l : List ℕ) → taskOf (headOf (set ls 1 l)) (set ls 1 l) ≡ taskOf (headOf ls) ls
 unfolding headOf
 same-task [] l = refl
 same-task (p ∷ []) l = refl
@@ -155,7 +156,7 @@ module _ (v : Way) (s : List ℕ) (rows places : ℕ) (e : PassesIn (bytesAs v s
   reply-as = ap (replyTo (headOf laid) laid) e ∙ ap₂ (λ (r : Run) (t : Task). replyRun r (t .ops) (outcomeOf r t)) run-as (task-as v s)
 
 -- ---- runs that end alike are answered alike
-same-reply : (r q : Run) (os ps : List Op) {x y : Stage Outcome} → SameEnd x y → SameReply (replyRun r os x) (replyRun q ps y)
+pub same-reply : (r q : Run) (os ps : List Op) {x y : Stage Outcome} → SameEnd x y → SameReply (replyRun r os x) (replyRun q ps y)
 unfolding eq ofBits
 same-reply r q os ps (sameRefusal n) = record { status = refl; line = refl; mean = refl; discarded = refl; peakTerms = refl; touched = refl }
 same-reply r q os ps (bothSucceed m d p n) = record { status = refl; line = refl; mean = m; discarded = d; peakTerms = p; touched = n }

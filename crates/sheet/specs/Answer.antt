@@ -15,7 +15,7 @@ use Rattle.turns.specs.declared.Op.{Op}
 use Rattle.turns.specs.Turn.{Stage, refused, going, Outcome}
 use Rattle.turns.specs.Told.{leftBy}
 use Rattle.runs.specs.declared.Run.{Run}
-use Rattle.runs.specs.declared.Run.the-variants.{Full, Cone, All, Path}
+use Rattle.runs.specs.declared.Run.the-variants.{Full, Cone, All, Path, Wide}
 use Rattle.runs.specs.Task.{Task}
 use Rattle.runs.specs.Outcome.{outcomeOf, tCountOf}
 use Rattle.runs.specs.Means.{meansOf}
@@ -84,6 +84,7 @@ meansAfter Full qubits run ms = ms
 meansAfter Cone qubits run ms = ms
 meansAfter All qubits run ms = meansOf qubits run ++ drop qubits ms
 meansAfter Path qubits run ms = ms
+meansAfter Wide qubits run ms = ms
 
 -- reply and all lent memory. "1 to 7 leave rows and mean places untouched"; "Success leaves the final terms in order, then zero rows"; "8 and 9
 -- set every row to zero"; "what a buffer has beyond them is never touched". The memory of the index is zeros after a run.

@@ -10,7 +10,7 @@ use Rattle.numbers.specs.Tests.{isFinite, isEpsilon}
 use Rattle.turns.specs.declared.Op.{Op}
 use Rattle.turns.specs.Ops.{shapeOf, targets}
 use Rattle.runs.specs.declared.Run.{Run}
-use Rattle.runs.specs.declared.Run.the-variants.{Full, Cone, All, Path}
+use Rattle.runs.specs.declared.Run.the-variants.{Full, Cone, All, Path, Wide}
 use Rattle.runs.specs.Task.{notChannel, realsFit, pairHolds, distinctTargets}
 use Rattle.layout.specs.declared.Head.{Head}
 use Rattle.lines.specs.TermLines.{TermLine, qubitsIn, allBelow, distinct}
@@ -45,24 +45,27 @@ question2 h = record {
   op = λ o. true;
 }
 
--- ---- 3. "Does `cone` have one term of weight 1.0, `all` no terms, and do channels stand only in `path`?"
+-- ---- 3. "Does `cone` have one term of weight 1.0, `all` no terms, and do channels stand only in `path`?" `wide` "counts as `path`" (2026-10)
 abbrev pub countFits : Run → ℕ → Bool
 countFits Full n = true
 countFits Cone n = eqb n 1
 countFits All n = eqb n 0
 countFits Path n = true
+countFits Wide n = true
 
 abbrev pub weightFits : Run → Float → Bool
 weightFits Full x = true
 weightFits Cone x = eq x one64
 weightFits All x = true
 weightFits Path x = true
+weightFits Wide x = true
 
 abbrev pub channelFits : Run → Op → Bool
 channelFits Full o = notChannel (shapeOf o .sort)
 channelFits Cone o = notChannel (shapeOf o .sort)
 channelFits All o = notChannel (shapeOf o .sort)
 channelFits Path o = true
+channelFits Wide o = true
 
 abbrev pub question3 : Head → Question
 question3 h = record {
@@ -131,6 +134,7 @@ placesFit Full qubits places = true
 placesFit Cone qubits places = true
 placesFit All qubits places = leb qubits places
 placesFit Path qubits places = true
+placesFit Wide qubits places = true
 
 abbrev pub question7 : Head → ℕ → ℕ → Bool
 question7 h rows places = leb (2 * h .limit) rows && placesFit (h .run) (h .qubits) places

@@ -17,7 +17,7 @@ use Rattle.turns.specs.Turn.{Stage, Outcome}
 use Rattle.turns.specs.Told.{endingOf}
 use Rattle.turns.specs.Given.{isGiven}
 use Rattle.runs.specs.declared.Run.{Run}
-use Rattle.runs.specs.declared.Run.the-variants.{Full, Cone, All, Path}
+use Rattle.runs.specs.declared.Run.the-variants.{Full, Cone, All, Path, Wide}
 use Rattle.runs.specs.Task.{Task, passes}
 use Rattle.runs.specs.Outcome.{outcomeOf}
 use Rattle.runs.specs.Table.{taskIn}
@@ -35,6 +35,7 @@ meansCount Full qubits = 0
 meansCount Cone qubits = 0
 meansCount All qubits = qubits
 meansCount Path qubits = 0
+meansCount Wide qubits = 0
 
 -- the reply that an answer of a run stands for
 abbrev pub replyEnd : Run → ℕ → ℕ → Ending → Reply

@@ -60,6 +60,7 @@ fn count_fits(run: Run, terms: usize) -> bool
         Run::Cone => terms == 1,
         Run::All => terms == 0,
         Run::Path => true,
+        Run::Wide => true,
     }
 }
 

@@ -40,7 +40,7 @@ fn is_no_channel(op: Op) -> bool
     }
 }
 
-// Question 3: channels stand only in `path`.
+// Question 3: channels stand only in `path`, and in `wide`, which counts as it.
 pub(crate) fn channel_fits(run: Run, op: Op) -> bool
     ensures { λ r. ⌜ r ≡ channelFits run op ⌝ }
 {
@@ -49,6 +49,7 @@ pub(crate) fn channel_fits(run: Run, op: Op) -> bool
         Run::Cone => is_no_channel(op),
         Run::All => is_no_channel(op),
         Run::Path => true,
+        Run::Wide => true,
     }
 }
 

@@ -32,6 +32,7 @@ fn means_count(run: Run, qubits: usize) -> usize
         Run::Cone => 0,
         Run::All => qubits,
         Run::Path => 0,
+        Run::Wide => 0,
     }
 }
 

@@ -6,6 +6,7 @@ ghost use Rattle.sheet.specs.Running.{Runnable, Ended, tableRun};
 use layout::Head;
 use runs::Run;
 use runs::all::run_spd_lowered;
+use runs::observable::run_pauli_path_light_cone;
 use runs::observable::run_pauli_path_weighted_observable;
 use runs::observable::run_spd_observable_light_cone;
 use runs::observable::run_spd_weighted_observable_with;
@@ -62,6 +63,19 @@ pub(crate) fn run_table(
         ),
         Run::All => run_spd_lowered(q, codes, reals, n, limits, words, coeffs, index, means),
         Run::Path => run_pauli_path_weighted_observable(
+            q,
+            keys,
+            weights,
+            k,
+            codes,
+            reals,
+            n,
+            limits,
+            words,
+            coeffs,
+            index,
+        ),
+        Run::Wide => run_pauli_path_light_cone(
             q,
             keys,
             weights,

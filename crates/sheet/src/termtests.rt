@@ -17,6 +17,7 @@ fn weight_fits(run: Run, x: f64) -> bool
         Run::Cone => x == 1.0,
         Run::All => true,
         Run::Path => true,
+        Run::Wide => true,
     }
 }
 

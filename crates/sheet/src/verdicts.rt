@@ -54,6 +54,7 @@ fn places_fit(run: Run, qubits: usize, places: usize) -> bool
         Run::Cone => true,
         Run::All => qubits <= places,
         Run::Path => true,
+        Run::Wide => true,
     }
 }
 

@@ -22,7 +22,8 @@ use Rattle.turns.specs.declared.marks.Targets.{Targets}
 use Rattle.turns.specs.declared.marks.Targets.the-variants as H
 use Rattle.turns.specs.Ops.{shapeOf, targets, isRotation, isBarrier, tCount}
 use Rattle.turns.specs.Runs.{markAll, markPath, member, touches, coneOf, markCone}
-use Rattle.turns.specs.Marks.{overlay, packed, listOf, meetsSet, joinSet, grownBy, coneSet, coneMarks, letterIn, lettersIn}
+use Rattle.turns.specs.Marks.{overlay, packed, listOf, meetsSet, joinSet, grownBy, coneSet, coneMarks, letterIn, lettersIn, letterInAny, lettersInAny}
+use Rattle.rows.specs.Rows.{keyAt}
 
 pub getD-past : {A : Type 0} (l : List A) (i : ℕ) (d : A) → length l ≤ i → getD l i d ≡ d
 getD-past [] i d h = refl
@@ -156,6 +157,17 @@ letters-filled w k i l h p q e =
     let z : i ≡ 256 = omega arith in
     sym (take-all i l (omega arith)) ∙ e ∙ ap (λ (n : ℕ). tab n (letterIn w k)) z
 
+pub letters-filled-any : (w : ℕ) (keys : List ℕ) (n i : ℕ) (l : List Bool) → length l ≡ 256 → 256 ≤ i → i ≤ 256 → take i l ≡ tab i (letterInAny w keys n) → l ≡ lettersInAny w keys n
+unfolding lettersInAny
+letters-filled-any w keys n i l h p q e =
+    let z : i ≡ 256 = omega arith in
+    sym (take-all i l (omega arith)) ∙ e ∙ ap (λ (m : ℕ). tab m (letterInAny w keys n)) z
+
+-- one line more
+pub any-turn : (w : ℕ) (keys : List ℕ) (i q : ℕ) {found here r : Bool} → found ≡ letterInAny w keys i q → here ≡ letterIn w (keyAt (2 * w) keys i) q → r ≡ (found || here) → r ≡ letterInAny w keys (i + 1) q
+unfolding letterInAny
+any-turn w keys i q e h r = r ∙ ap₂ _||_ e h ∙ ap (λ (n : ℕ). letterInAny w keys n q) (sym (add-one i))
+
 -- ---- the inverse light cone
 -- the targets of an op, at most two, are those that the code has
 list-packed : (op : Op) → listOf (packed (targets op)) ≡ targets op
@@ -274,3 +286,10 @@ pub letters-marks : (w : ℕ) (k : Key) (qs : List ℕ) (ops : List Op) → ((q 
 unfolding lettersIn
 letters-marks w k qs ops e h =
     cone-marks (tab 256 (letterIn w k)) qs ops (length-tab 256 (letterIn w k)) (λ q below. e q below ∙ sym (getD-tab 256 (letterIn w k) q false below)) h
+
+-- the same from the words of a table
+pub any-marks : (w : ℕ) (keys : List ℕ) (n : ℕ) (qs : List ℕ) (ops : List Op) → ((q : ℕ) → q < 256 → member q qs ≡ letterInAny w keys n q) → TargetsBelow ops
+    → coneMarks (lettersInAny w keys n) ops ≡ markCone qs ops
+unfolding lettersInAny
+any-marks w keys n qs ops e h =
+    cone-marks (tab 256 (letterInAny w keys n)) qs ops (length-tab 256 (letterInAny w keys n)) (λ q below. e q below ∙ sym (getD-tab 256 (letterInAny w keys n) q false below)) h

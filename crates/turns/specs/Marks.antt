@@ -1,11 +1,12 @@
 -- Marks as the code makes them: a set of qubits is a list of 256 booleans, and marks are written over those that were there.
-use Prim.Native.Nat.{ℕ, _*_}
+use Prim.Native.Nat.{ℕ, zero, suc, _*_}
 use mathlib.Core.Bool.{Bool, true, false, _||_, _&&_, cond}
 use mathlib.Core.List.{List, [], _∷_}
 use lib.Dec.{ltb}
 use lib.ListN.{getD, set}
 use Rattle.words.specs.Keys.{Key, hasLetter}
 use Rattle.terms.specs.Lists.{tab}
+use Rattle.rows.specs.Rows.{keyAt}
 use Rattle.turns.specs.declared.Op.{Op}
 use Rattle.turns.specs.declared.marks.Targets.{Targets}
 use Rattle.turns.specs.declared.marks.Targets.the-variants as T
@@ -59,3 +60,12 @@ letterIn w k q = ltb q (64 * w) && hasLetter w k q
 unfoldable pub lettersIn : ℕ → Key → List Bool
 unfolding tab
 lettersIn w k = tab 256 (letterIn w k)
+
+-- the qubits at which one of the first n words of a table has a letter
+unfoldable pub letterInAny : ℕ → List ℕ → ℕ → ℕ → Bool
+letterInAny w keys zero q = false
+letterInAny w keys (suc n) q = letterInAny w keys n q || letterIn w (keyAt (2 * w) keys n) q
+
+unfoldable pub lettersInAny : ℕ → List ℕ → ℕ → List Bool
+unfolding tab letterInAny
+lettersInAny w keys n = tab 256 (letterInAny w keys n)

@@ -2,12 +2,13 @@
 ghost use mathlib.Core.Path.{_≡_};
 ghost use mathlib.Core.Bool.{_||_, true, false, cond, not};
 ghost use mathlib.Core.List.{[], _∷_};
-ghost use Prim.Native.Nat.{min};
-ghost use lib.ListN.{getD, set};
+ghost use Prim.Native.Nat.{_+_, _*_, _/_, _≤_, min};
+ghost use lib.ListN.{length, getD, set};
+ghost use Rattle.rows.specs.Rows.{keyAt};
 ghost use Rattle.turns.specs.Ops.{shapeOf, targets, isRotation, isBarrier, tCount};
 ghost use Rattle.turns.specs.OpList.{opList};
 ghost use Rattle.turns.specs.Runs.{markAll, markPath};
-ghost use Rattle.turns.specs.Marks.{overlay, packed, listOf, meetsSet, joinSet, grownBy, coneMarks, letterIn, lettersIn};
+ghost use Rattle.turns.specs.Marks.{overlay, packed, listOf, meetsSet, joinSet, grownBy, coneMarks, letterIn, lettersIn, letterInAny, lettersInAny};
 use crate::Op;
 use crate::oplist::op_at;
 use crate::oplist::op_count;
@@ -233,8 +234,63 @@ fn letters_in(w: usize, key: &[u64]) -> [bool; 256]
     s
 }
 
-// Marks the ops in the inverse light cone of a word, as far as the marks go: from the last op back, an op is marked if one of its targets
+// Whether line i of a table has a letter at a qubit.
+fn line_letter(w: usize, keys: &[u64], i: usize, q: usize) -> bool
+    requires { ⌜ i * (2 * w) + 2 * w ≤ length (now keys) ⌝ }
+    ensures { λ r. ⌜ r ≡ letterIn w (keyAt (2 * w) (now (keys .entry)) i) q ⌝ }
+{
+    let size = 2 * w;
+    let base = i * size;
+    let end = base + size;
+    has_letter(w, &keys[base..end], q)
+}
+
+// Whether one of the first n lines has a letter at a qubit.
+fn any_letter(w: usize, keys: &[u64], n: usize, q: usize) -> bool
+    requires { ⌜ n ≤ length (now keys) / (2 * w) ⌝ }
+    ensures { λ r. ⌜ r ≡ letterInAny w (now (keys .entry)) n q ⌝ }
+{
+    let mut found = false;
+    let mut i = 0;
+    while i < n {
+        found = either(found, line_letter(w, keys, i, q));
+        i += 1;
+    }
+    found
+}
+
+// The qubits at which one of the first n lines has a letter.
+fn letters_in_any(w: usize, keys: &[u64], n: usize) -> [bool; 256]
+    requires { ⌜ n ≤ length (now keys) / (2 * w) ⌝ }
+    ensures { λ r. ⌜ r ≡ lettersInAny w (now (keys .entry)) n ⌝ }
+{
+    let mut s = [false; 256];
+    let mut q = 0;
+    while q < 256 {
+        s[q] = any_letter(w, keys, n, q);
+        q += 1;
+    }
+    s
+}
+
+// Marks the ops in the cone that is grown from a set, as far as the marks go: from the last op back, an op is marked if one of its targets
 // is in the set, and then its targets join the set.
+fn cone_from(codes: &[usize], reals: &[f64], n: usize, from: [bool; 256], marks: &mut [bool])
+    ensures { λ _. ⌜ now (marks .exit) ≡ overlay (coneMarks from (opList n (now (codes .entry)) (now (reals .entry)))) (now (marks .entry)) ⌝ }
+{
+    let mut s = from;
+    let mut i = op_count(n, codes.len(), reals.len());
+    while 0 < i {
+        i -= 1;
+        let op = op_at(codes, reals, i);
+        let t = targets_of(op);
+        put_mark(marks, i, meets(t, s));
+        let next = grown(t, s);
+        s = next;
+    }
+}
+
+// Marks the ops in the inverse light cone of a word.
 pub fn inverse_light_cone(
     codes: &[usize],
     reals: &[f64],
@@ -245,14 +301,21 @@ pub fn inverse_light_cone(
 )
     ensures { λ _. ⌜ now (marks .exit) ≡ overlay (coneMarks (lettersIn w (now (key .entry))) (opList n (now (codes .entry)) (now (reals .entry)))) (now (marks .entry)) ⌝ }
 {
-    let mut s = letters_in(w, key);
-    let mut i = op_count(n, codes.len(), reals.len());
-    while 0 < i {
-        i -= 1;
-        let op = op_at(codes, reals, i);
-        let t = targets_of(op);
-        put_mark(marks, i, meets(t, s));
-        let next = grown(t, s);
-        s = next;
-    }
+    cone_from(codes, reals, n, letters_in(w, key), marks);
+}
+
+// Marks the ops in the cone grown from the words of the first `lines` lines of a table; without the lines, from none.
+pub fn wide_marks(
+    codes: &[usize],
+    reals: &[f64],
+    n: usize,
+    w: usize,
+    keys: &[u64],
+    lines: usize,
+    marks: &mut [bool],
+)
+    ensures { λ _. ⌜ now (marks .exit) ≡ overlay (coneMarks (lettersInAny w (now (keys .entry)) (min lines (length (now (keys .entry)) / (2 * w)))) (opList n (now (codes .entry)) (now (reals .entry)))) (now (marks .entry)) ⌝ }
+{
+    let there = smaller(lines, words::rows::rows_of(keys.len(), w));
+    cone_from(codes, reals, n, letters_in_any(w, keys, there), marks);
 }

@@ -22,4 +22,4 @@ run-t-count-spec =
     tie.close
     (tie.spec
     (λ c. search needs) (λ c κs. search needs) (λ c. search needs) (λ c κs. search needs) (λ c. search needs) (λ c κs. search needs)
-    (λ c. search needs) returns returns-2 returns-3 (λ c. search needs))
+    (λ c. search needs) (λ c. search needs) returns returns-2 returns-3 (λ c. search needs) (λ c. search needs))

@@ -14,4 +14,4 @@ returns-3 : tie.Need-returns-3
 returns-3 c = by-run (λ (r : Run). countFits r (c .before .before .args .terms)) _ _ _ (c .enum-told3 .given .1) refl
 
 pub count-fits-spec : {M : Type 1} → statement M
-count-fits-spec = tie.close (tie.spec (λ c. search needs) (λ c. search needs) (λ c. search needs) (λ c. search needs) (λ c. search needs) returns-2 returns-3 (λ c. search needs))
+count-fits-spec = tie.close (tie.spec (λ c. search needs) (λ c. search needs) (λ c. search needs) (λ c. search needs) (λ c. search needs) (λ c. search needs) returns-2 returns-3 (λ c. search needs) (λ c. search needs))

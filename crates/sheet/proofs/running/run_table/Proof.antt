@@ -3,7 +3,7 @@ use Rattle.runs.specs.Outcome.{outcomeOf}
 use Rattle.runs.specs.declared.Run.{Run}
 use Rattle.runs.specs.declared.Run.the-variants.{Full, Path}
 use Rattle.sheet.proofs.OutcomeLaws.{all-left}
-use Rattle.sheet.proofs.RunLaws.{marked-ended, cone-ended, all-ended}
+use Rattle.sheet.proofs.RunLaws.{marked-ended, cone-ended, wide-ended, all-ended}
 use Rattle.sheet.specs.Asking.{tableOps}
 use Rattle.sheet.specs.Running.{tableTask}
 use Rattle.turns.specs.Told.{leftBy}
@@ -27,11 +27,14 @@ returns-3 c = let a = c .before .before .before .before .before .before .before 
 returns-4 : tie.Need-returns-4
 returns-4 c = let a = c .before .before .before .before .before .before .before .before .before .before .before .before .before .before .before .before .before .before .before .before .before .args in marked-ended (a .head) (now (a .keys)) (now (a .weights)) (tableOps (a .head) (now (a .codes)) (now (a .reals))) (now (a .words)) (now (a .coeffs)) (now (a .means)) (now (a .index)) (c .before .before .before .before .before .before .before .before .before .before .before .before .before .before .before .before .before .before .before .before .before .pre) _ (c .before .before .before .before .before .before .before .before .before .before .before .before .limits-of .ensures) _ (c .before .before .before .before .before .before .run-pauli-path-weighted-observable .ensures) Path (c .before .before .before .before .before .before .before .before .before .before .enum-told4 .given .1) refl refl
 
+returns-5 : tie.Need-returns-5
+returns-5 c = let a = c .before .before .before .before .before .before .before .before .before .before .before .before .before .before .before .before .before .before .before .before .before .args in wide-ended (a .head) (now (a .keys)) (now (a .weights)) (tableOps (a .head) (now (a .codes)) (now (a .reals))) (now (a .words)) (now (a .coeffs)) (now (a .means)) (now (a .index)) (c .before .before .before .before .before .before .before .before .before .before .before .before .before .before .before .before .before .before .before .before .before .pre) _ (c .before .before .before .before .before .before .before .before .before .before .before .before .limits-of .ensures) (c .before .before .before .before .before .before .run-pauli-path-light-cone .ensures) (c .before .before .before .before .before .before .before .before .before .before .enum-told5 .given .1)
+
 pub run-table-spec : {M : Type 1} → statement M
 run-table-spec =
     tie.close
     (tie.spec
     (λ c κs. search needs) (λ c. search needs) (λ c κs. search needs) (λ c. search needs) (λ c κs. search needs) (λ c. search needs)
-    (λ c κs. search needs) (λ c. search needs) (λ c κs. search needs) (λ c. search needs) (λ c. search needs) (λ c. search needs) returns
+    (λ c κs. search needs) (λ c. search needs) (λ c κs. search needs) (λ c. search needs) (λ c κs. search needs) (λ c. search needs) (λ c. search needs) (λ c. search needs) returns
     (λ c. search needs) (λ c. search needs) (λ c. search needs) returns-2 (λ c. search needs) (λ c. search needs) (λ c. search needs)
-    (λ c. search needs) returns-3 (λ c. search needs) (λ c. search needs) (λ c. search needs) returns-4)
+    (λ c. search needs) returns-3 (λ c. search needs) (λ c. search needs) (λ c. search needs) returns-4 (λ c. search needs) (λ c. search needs) (λ c. search needs) returns-5)

@@ -11,4 +11,4 @@ returns-3 : tie.Need-returns-3
 returns-3 c = let a = c .before .before .args in by-run (λ (r : Run). placesFit r (a .qubits) (a .places)) _ _ _ (c .enum-told3 .given .1) refl
 
 pub places-fit-spec : {M : Type 1} → statement M
-places-fit-spec = tie.close (tie.spec (λ c. search needs) (λ c. search needs) (λ c. search needs) (λ c. search needs) (λ c. search needs) (λ c. search needs) returns-3 (λ c. search needs))
+places-fit-spec = tie.close (tie.spec (λ c. search needs) (λ c. search needs) (λ c. search needs) (λ c. search needs) (λ c. search needs) (λ c. search needs) (λ c. search needs) returns-3 (λ c. search needs) (λ c. search needs))

@@ -1,0 +1,3 @@
+-- Laws of the wide run of byte strings.
+pub mod WideBytes
+pub mod WideCases

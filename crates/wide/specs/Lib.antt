@@ -1,0 +1,2 @@
+-- `run=wide` beside `run=path`, of byte strings.
+pub mod SheetWide
