@@ -65,7 +65,7 @@ impl Bench {
     pub fn new(limit: usize, qubits: usize) -> Self {
         Self {
             words: vec![0; 4 * limit * qubits.div_ceil(64)],
-            coeffs: vec![0.0; 4 * limit],
+            coeffs: vec![0.0; 2 * limit],
             index: vec![0; 6 * limit + 2],
             means: vec![0.0; qubits],
             out: vec![0; 8192],

@@ -16,7 +16,7 @@
 
 /* Lengths of the buffers for sheets with `limit=` at most `limit` and `qubits=` at most `qubits`. */
 #define QUBIT_BENCH_WORDS(limit, qubits) ((size_t)4 * (limit) * (((qubits) + 63) / 64))
-#define QUBIT_BENCH_COEFFS(limit) ((size_t)4 * (limit))
+#define QUBIT_BENCH_COEFFS(limit) ((size_t)2 * (limit))
 #define QUBIT_BENCH_INDEX(limit) ((size_t)6 * (limit) + 2)
 #define QUBIT_BENCH_MEANS 256 /* enough for every sheet */
 #define QUBIT_BENCH_OUT 8192  /* enough for every text: the longest has less than 5,000 bytes */
@@ -27,8 +27,8 @@ extern "C" {
 
 /* Writes the text of the answer to `out` and returns how many bytes were written.
  *
- * A row is one term of the sum: 2 * W numbers of `words`, where W is qubits / 64 rounded up, and 2 numbers of `coeffs`. There are as many rows as
- * both buffers hold whole: the smaller of words_len / (2 * W) and coeffs_len / 2. A run needs 2 * limit rows.
+ * A row is one term of the sum: 2 * W numbers of `words`, where W is qubits / 64 rounded up, and 1 number of `coeffs`. There are as many rows as
+ * both buffers hold whole: the smaller of words_len / (2 * W) and coeffs_len. A run needs 2 * limit rows.
  *
  * sheet      The bytes of the sheet, only read. No zero byte ends them.
  * sheet_len  How many bytes: any number, 0 too. What is not a whole sheet is refused with 1.
@@ -37,7 +37,8 @@ extern "C" {
  *            each. x alone is X, z alone is Z, and both are X times Z, which is -i times Y.
  * words_len  Any number. Too short for 2 * limit rows: refusal 7. QUBIT_BENCH_WORDS is enough.
  *
- * coeffs     The coefficients of the rows: real part coeffs[2 * i], imaginary part coeffs[2 * i + 1].
+ * coeffs     The coefficients of the rows. One part of each is zero, and coeffs[i] is the other: the imaginary part where the qubits of row i with
+ *            both x and z set are odd in number, else the real part.
  * coeffs_len Any number. Too short for 2 * limit rows: refusal 7. QUBIT_BENCH_COEFFS is enough.
  *
  *            After status 0 the rows hold the terms that are left at the end of the run, in order, and then zeros; after `run=all`, and where each

@@ -107,7 +107,7 @@ impl Ours {
     fn new(kind: &Kind) -> Self {
         Self {
             words: vec![0; 2 * kind.width * kind.rows],
-            coeffs: vec![0.0; 2 * kind.rows],
+            coeffs: vec![0.0; kind.rows],
             index: vec![0; 3 * kind.rows + 2],
             means: vec![0.0; 256],
             out: vec![0; 8192],

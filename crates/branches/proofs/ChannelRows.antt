@@ -15,7 +15,6 @@ use Rattle.numbers.specs.Tests.{isZero}
 use Rattle.terms.specs.declared.Axis.the-variants.{Z}
 use Rattle.terms.specs.declared.ChannelAction.{ChannelAction}
 use Rattle.terms.specs.declared.ChannelKind.the-variants.{Local, Depolarizing2q}
-use Rattle.terms.specs.declared.Complex64.{Complex64}
 use Rattle.terms.specs.declared.Found.{Found}
 use Rattle.terms.specs.declared.Found.the-variants.{At, Nothing}
 use Rattle.terms.specs.Lists.{foldl}
@@ -88,7 +87,7 @@ module _ (w q : ℕ) (lambda : List Float) (i : ℕ) (ws : List ℕ) (cs : List 
   pub letter-none : {f : Found} → f ≡ letterOf w q (keyAt (2 * w) ws i) → f ≡ Nothing → cs ≡ putCoeff cs i (scaledLetter w q lambda t .coeff)
   letter-none e n = sym (put-val-same cs i) ∙ ap (λ (u : Term). putCoeff cs i (u .coeff)) (sym (by-letter ∙ ap ByLetter (sym e ∙ n)))
 
-  pub letter-scaled : {f : Found} (l : ℕ) {v u : Complex64} {cs′ : List Float} → f ≡ letterOf w q (keyAt (2 * w) ws i) → f ≡ At l → v ≡ coeffAt cs i
+  pub letter-scaled : {f : Found} (l : ℕ) {v u : Float} {cs′ : List Float} → f ≡ letterOf w q (keyAt (2 * w) ws i) → f ≡ At l → v ≡ coeffAt cs i
       → u ≡ scaledOf (getD lambda l nan) v → cs′ ≡ putCoeff cs i u → cs′ ≡ putCoeff cs i (scaledLetter w q lambda t .coeff)
   letter-scaled l e a ev eu ec =
       ec ∙ ap (putCoeff cs i) (eu ∙ ap (scaledOf (getD lambda l nan)) ev) ∙ ap (λ (u : Term). putCoeff cs i (u .coeff)) (sym (by-letter ∙ ap ByLetter (sym e ∙ a)))
@@ -124,7 +123,7 @@ maybe-z w q k l e a = sym (z-letter w q k ∙ ap isTwo (sym e ∙ a))
 
 -- ---- a term added to the row that has its word, or appended
 
-module _ (w q m i : ℕ) (d : Complex64) (ws : List ℕ) (cs : List Float) (room : Room (2 * w) (m + 1) ws cs) (before : i < m) where
+module _ (w q m i : ℕ) (d : Float) (ws : List ℕ) (cs : List Float) (room : Room (2 * w) (m + 1) ws cs) (before : i < m) where
   abbrev s : ℕ
   s = 2 * w
 
@@ -157,7 +156,7 @@ module _ (w q m i : ℕ) (d : Complex64) (ws : List ℕ) (cs : List Float) (room
     insert-new e ew ec =
         rw (in-row k ts ∙ ap isAt (found ∙ e), ew, ec) (hold-push (hold-start s (m + 1) m ws cs) room (omega arith) (term k d) whole)
 
-    pub insert-old : (j : ℕ) {v u : Complex64} {cs′ : List Float} → f ≡ At j → v ≡ coeffAt cs j → u ≡ plusOf v d → cs′ ≡ putCoeff cs j u
+    pub insert-old : (j : ℕ) {v u : Float} {cs′ : List Float} → f ≡ At j → v ≡ coeffAt cs j → u ≡ plusOf v d → cs′ ≡ putCoeff cs j u
         → Holds s m m (insert ts (term k d)) ws ws cs cs′
     unfolding insert
     insert-old j e ev eu ec =
@@ -169,7 +168,7 @@ module _ (w q m i : ℕ) (d : Complex64) (ws : List ℕ) (cs : List Float) (room
 -- ---- the identity branch of a row
 
 module _ (w q m i : ℕ) (f : Float) (ws : List ℕ) (cs : List Float) where
-  pub branch-z : {c d : Complex64} {r : ℕ} {ws′ : List ℕ} {cs′ : List Float} → isZLetter w q (keyAt (2 * w) ws i) ≡ true → c ≡ coeffAt cs i → d ≡ scaledOf f c
+  pub branch-z : {c d : Float} {r : ℕ} {ws′ : List ℕ} {cs′ : List Float} → isZLetter w q (keyAt (2 * w) ws i) ≡ true → c ≡ coeffAt cs i → d ≡ scaledOf f c
       → Holds (2 * w) r r (insert (termsIn (2 * w) m ws cs) (term (flipAt (keyAt (2 * w) ws i) (zAt w q)) d)) ws ws′ cs cs′
       → Holds (2 * w) r r (branch w q f (termsIn (2 * w) m ws cs) (termAt (2 * w) ws cs i)) ws ws′ cs cs′
   branch-z z ec ed H = rw (z, ← (ed ∙ ap (scaledOf f) ec)) H
@@ -214,7 +213,7 @@ module _ (w a b : ℕ) (f : Float) (i : ℕ) (ws : List ℕ) (cs : List Float) w
     met : m ≡ (hasLetter w (row .key) a || hasLetter w (row .key) b)
     met = em ∙ ap₂ _||_ ep eq
 
-    pub either-met : {v u : Complex64} {cs′ : List Float} → m ≡ true → v ≡ coeffAt cs i → u ≡ scaledOf f v → cs′ ≡ putCoeff cs i u
+    pub either-met : {v u : Float} {cs′ : List Float} → m ≡ true → v ≡ coeffAt cs i → u ≡ scaledOf f v → cs′ ≡ putCoeff cs i u
         → cs′ ≡ putCoeff cs i (scaledEither w a b f row .coeff)
     either-met e ev eu ec =
         ec ∙ ap (putCoeff cs i) (eu ∙ ap (scaledOf f) ev ∙ ap (λ (x : Bool). cond x (term (row .key) (scaledOf f (row .coeff))) row .coeff) (sym (sym met ∙ e)))

@@ -12,11 +12,10 @@ use lib.Ieee.{Float}
 use Rattle.numbers.specs.Tests.{isZero}
 use Rattle.words.specs.Keys.{Key, bitAt, flipAt, zAt, sameKey}
 use Rattle.terms.specs.declared.Axis.{Axis}
-use Rattle.terms.specs.declared.Complex64.{Complex64}
 use Rattle.terms.specs.declared.Found.{Found}
 use Rattle.terms.specs.declared.Found.the-variants.{At, Nothing}
 use Rattle.terms.specs.Coefficient.{scaledOf}
-use Rattle.terms.specs.Term.{Term, term, noTerm}
+use Rattle.terms.specs.Term.{oddY, Term, term, noTerm}
 use Rattle.terms.specs.Rotation.{metBy, partnerBy, flippedTerm, mixed}
 use Rattle.terms.specs.Branch.{rowOf, branchPair, branchLone, branchBy, branchRow}
 use Rattle.terms.specs.Channel.{isZLetter}
@@ -41,7 +40,7 @@ abbrev keyOf : List Term → ℕ → Key
 keyOf ts j = getD ts j noTerm .key
 
 -- another coefficient in row i keeps every key
-recoeff : (ts : List Term) (i : ℕ) (k : Key) (v : Complex64) → k ≡ keyOf ts i → (j : ℕ) → keyOf (set ts i (term k v)) j ≡ keyOf ts j
+recoeff : (ts : List Term) (i : ℕ) (k : Key) (v : Float) → k ≡ keyOf ts i → (j : ℕ) → keyOf (set ts i (term k v)) j ≡ keyOf ts j
 recoeff ts i k v e j = ⊎-elim
     (λ (q : j ≡ i). ⊎-elim
     (λ (h : i < length ts). subst (λ (m : ℕ). keyOf (set ts i (term k v)) m ≡ keyOf ts m) (sym q) (ap (λ (t : Term). t .key) (getD-set-same ts i (term k v) noTerm h) ∙ e))
@@ -50,7 +49,7 @@ recoeff ts i k v e j = ⊎-elim
     (λ (n : j ≡ i → ⊥). ap (λ (t : Term). t .key) (getD-set-other ts i j (term k v) noTerm n))
     (eq-or-ne j i)
 
-module _ (met : Key → Bool) (partner : Key → Key) (sin cos : Float) (ts : List Term) (n i : ℕ) where
+module _ (w : ℕ) (met : Key → Bool) (partner : Key → Key) (sin cos : Float) (ts : List Term) (n i : ℕ) where
   -- row i is met and has no partner
   abbrev Lone : Type 0
   Lone = (met (keyOf ts i) ≡ true) × (rowOf n (partner (keyOf ts i)) ts ≡ Nothing)
@@ -59,7 +58,7 @@ module _ (met : Key → Bool) (partner : Key → Key) (sin cos : Float) (ts : Li
   abbrev Moved : List Term → ℕ → Type 0
   Moved us j = (keyOf us j ≡ keyOf ts j) ⊎ ((j ≡ i) × (Lone × (keyOf us j ≡ partner (keyOf ts j))))
 
-  pair-keys : (k j : ℕ) → keyOf (branchPair met partner sin cos i k ts) j ≡ keyOf ts j
+  pair-keys : (k j : ℕ) → keyOf (branchPair w met partner sin cos i k ts) j ≡ keyOf ts j
   pair-keys k j = go (ltb i k)
     where
       t : Term
@@ -69,22 +68,22 @@ module _ (met : Key → Bool) (partner : Key → Key) (sin cos : Float) (ts : Li
       u = getD ts k noTerm
 
       one : List Term
-      one = set ts i (term (t .key) (mixed sin cos (t .coeff) (u .coeff)))
+      one = set ts i (term (t .key) (mixed (oddY w (t .key)) sin cos (t .coeff) (u .coeff)))
 
-      go : (b : Bool) → keyOf (cond b (set one k (term (u .key) (mixed sin cos (u .coeff) (t .coeff)))) ts) j ≡ keyOf ts j
+      go : (b : Bool) → keyOf (cond b (set one k (term (u .key) (mixed (not (oddY w (t .key))) sin cos (u .coeff) (t .coeff)))) ts) j ≡ keyOf ts j
       go true =
-          recoeff one k (u .key) (mixed sin cos (u .coeff) (t .coeff)) (sym (recoeff ts i (t .key) (mixed sin cos (t .coeff) (u .coeff)) refl k)) j
-          ∙ recoeff ts i (t .key) (mixed sin cos (t .coeff) (u .coeff)) refl j
+          recoeff one k (u .key) (mixed (not (oddY w (t .key))) sin cos (u .coeff) (t .coeff)) (sym (recoeff ts i (t .key) (mixed (oddY w (t .key)) sin cos (t .coeff) (u .coeff)) refl k)) j
+          ∙ recoeff ts i (t .key) (mixed (oddY w (t .key)) sin cos (t .coeff) (u .coeff)) refl j
       go false = refl
 
-  lone-keys : (j : ℕ) → Lone → j < length ts → Moved (branchLone met partner sin cos i ts) j
+  lone-keys : (j : ℕ) → Lone → j < length ts → Moved (branchLone w met partner sin cos i ts) j
   lone-keys j lone h = go (isZero cos)
     where
       t : Term
       t = getD ts i noTerm
 
       f : Term
-      f = flippedTerm met partner sin cos t
+      f = flippedTerm w met partner sin cos t
 
       turned : Moved (set ts i f) j
       turned = ⊎-elim
@@ -100,21 +99,21 @@ module _ (met : Key → Bool) (partner : Key → Key) (sin cos : Float) (ts : Li
           inl (ap (λ (x : Term). x .key) (List·getD-append (set ts i (term (t .key) (scaledOf cos (t .coeff)))) (f ∷ []) noTerm j (simp length-set h))
           ∙ recoeff ts i (t .key) (scaledOf cos (t .coeff)) refl j)
 
-  row-keys : (j : ℕ) → j < length ts → Moved (branchRow met partner sin cos n i ts) j
+  row-keys : (j : ℕ) → j < length ts → Moved (branchRow w met partner sin cos n i ts) j
   unfolding branchRow
   row-keys j h = go (met (keyOf ts i)) refl
     where
-      by : met (keyOf ts i) ≡ true → (f : Found) → rowOf n (partner (keyOf ts i)) ts ≡ f → Moved (branchBy met partner sin cos i ts f) j
+      by : met (keyOf ts i) ≡ true → (f : Found) → rowOf n (partner (keyOf ts i)) ts ≡ f → Moved (branchBy w met partner sin cos i ts f) j
       by e (At k) q = inl (pair-keys k j)
       by e Nothing q = lone-keys j (e, q) h
 
-      go : (b : Bool) → met (keyOf ts i) ≡ b → Moved (cond b (branchBy met partner sin cos i ts (rowOf n (partner (keyOf ts i)) ts)) ts) j
+      go : (b : Bool) → met (keyOf ts i) ≡ b → Moved (cond b (branchBy w met partner sin cos i ts (rowOf n (partner (keyOf ts i)) ts)) ts) j
       go true e = by e (rowOf n (partner (keyOf ts i)) ts) refl
       go false e = inl refl
 
 -- the table of partners, after row i of a rotation
 pub table-rotated : (w : ℕ) (x : Axis) (sin cos : Float) (n m i r buckets : ℕ) (ix ws ws′ : List ℕ) (cs cs′ : List Float) → i < n → n ≤ m → m ≤ r
-    → Holds (2 * w) r r (branchRow (metBy x) (partnerBy w x) sin cos n i (termsIn (2 * w) m ws cs)) ws ws′ cs cs′
+    → Holds (2 * w) r r (branchRow w (metBy x) (partnerBy w x) sin cos n i (termsIn (2 * w) m ws cs)) ws ws′ cs cs′
     → Tabled x w ws n i buckets ix → Tabled x w ws′ n (i + 1) buckets ix
 table-rotated w x sin cos n m i r buckets ix ws ws′ cs cs′ hi a b H T = record { table = λ p. table-moved x w ws ws′ n i buckets ix hi (T .table p) (λ j h. row j (omega arith)) }
   where
@@ -131,13 +130,13 @@ table-rotated w x sin cos n m i r buckets ix ws ws′ cs cs′ hi a b H T = reco
 
     row : (j : ℕ) → j < m → Shifted x w ws ws′ n i j
     row j h =
-        let new : keyOf (branchRow (metBy x) (partnerBy w x) sin cos n i ts) j ≡ keyAt (2 * w) ws′ j = ap (λ (t : Term). t .key) (hold-at H j (omega arith)) in
+        let new : keyOf (branchRow w (metBy x) (partnerBy w x) sin cos n i ts) j ≡ keyAt (2 * w) ws′ j = ap (λ (t : Term). t .key) (hold-at H j (omega arith)) in
         let long : j < length ts = subst (λ (l : ℕ). j < l) (sym (length-tab m (termAt (2 * w) ws cs))) h in
         ⊎-elim
-        (λ (e : keyOf (branchRow (metBy x) (partnerBy w x) sin cos n i ts) j ≡ keyOf ts j). inl (sym new ∙ e ∙ old j h))
-        (λ (e : (j ≡ i) × (Lone (metBy x) (partnerBy w x) sin cos ts n i × (keyOf (branchRow (metBy x) (partnerBy w x) sin cos n i ts) j ≡ partnerBy w x (keyOf ts j)))).
+        (λ (e : keyOf (branchRow w (metBy x) (partnerBy w x) sin cos n i ts) j ≡ keyOf ts j). inl (sym new ∙ e ∙ old j h))
+        (λ (e : (j ≡ i) × (Lone w (metBy x) (partnerBy w x) sin cos ts n i × (keyOf (branchRow w (metBy x) (partnerBy w x) sin cos n i ts) j ≡ partnerBy w x (keyOf ts j)))).
         inr (e .0, ((ap (metBy x) (sym (old i (omega arith))) ∙ e .1 .0 .0, sym partner-row ∙ e .1 .0 .1), sym new ∙ e .1 .1 ∙ ap (partnerBy w x) (old j h))))
-        (row-keys (metBy x) (partnerBy w x) sin cos ts n i j long)
+        (row-keys w (metBy x) (partnerBy w x) sin cos ts n i j long)
 
 -- the word of a row with the letter Z, with z cleared, is one that the index of identity branches has
 pub z-files : (w q : ℕ) (k : Key) → isZLetter w q k ≡ true → files w (Identity q) (flipAt k (zAt w q)) ≡ true

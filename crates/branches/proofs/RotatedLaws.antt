@@ -60,7 +60,7 @@ module _ (w n : ℕ) (x : Axis) (sin cos : Float) (ws : List ℕ) (cs : List Flo
 
   -- the two results are one where the keys are distinct
   both : {r : ℕ} {ws′ : List ℕ} {cs′ : List Float} → Words ws → leb (2 * n) (rowsIn w ws cs) ≡ true
-      → Grown w n (branched (metBy x) (partnerBy w x) sin cos ts) r ws ws′ cs cs′ → Rotated w n x sin cos r ws ws′ cs cs′
+      → Grown w n (branched w (metBy x) (partnerBy w x) sin cos ts) r ws ws′ cs cs′ → Rotated w n x sin cos r ws ws′ cs cs′
   both {r} {ws′} {cs′} ok e G =
       let room = room-less {R = n} (omega arith) (rows-room w (2 * n) ws cs (leb-true (2 * n) _ e)) in
       record {
@@ -70,13 +70,13 @@ module _ (w n : ℕ) (x : Axis) (sin cos : Float) (ws : List ℕ) (cs : List Flo
 
   -- the sine is 0
   pub rotated-scaled : {cs′ : List Float} → Words ws → leb (2 * n) (rowsIn w ws cs) ≡ true → isZero sin ≡ true
-      → Holds (2 * w) n n (map (scaledMet (metBy x) (partnerBy w x) sin cos) ts) ws ws cs cs′ → Rotated w n x sin cos n ws ws cs cs′
+      → Holds (2 * w) n n (map (scaledMet w (metBy x) (partnerBy w x) sin cos) ts) ws ws cs cs′ → Rotated w n x sin cos n ws ws cs cs′
   unfolding branched
   rotated-scaled ok e z H = both ok e (grown w n _ e (omega arith) (rw z H))
 
   -- the sine is not 0
   pub rotated-branched : {r : ℕ} {ws′ : List ℕ} {cs′ : List Float} → Words ws → leb (2 * n) (rowsIn w ws cs) ≡ true → isZero sin ≡ false → r ≤ 2 * n
-      → Holds (2 * w) r r (branchTo (metBy x) (partnerBy w x) sin cos n n ts) ws ws′ cs cs′ → Rotated w n x sin cos r ws ws′ cs cs′
+      → Holds (2 * w) r r (branchTo w (metBy x) (partnerBy w x) sin cos n n ts) ws ws′ cs cs′ → Rotated w n x sin cos r ws ws′ cs cs′
   unfolding branched
   rotated-branched ok e z h H = both ok e (grown w n _ e h (rw (z, long) H))
 

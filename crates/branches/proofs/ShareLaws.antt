@@ -10,11 +10,11 @@ use lib.Ieee.{Float}
 use borrow.Author.Tests.{le-leb}
 use Rattle.words.specs.Keys.{Key, sameKey}
 use Rattle.words.proofs.KeyLaws.{sameKey-eq, sameKey-refl}
-use Rattle.terms.specs.declared.Complex64.{Complex64}
 use Rattle.terms.specs.declared.Found.{Found}
 use Rattle.terms.specs.declared.Found.the-variants.{At, Nothing}
 use Rattle.terms.specs.Lists.{tab, foldl}
-use Rattle.terms.specs.Coefficient.{none64, plusOf}
+use Rattle.terms.specs.Coefficient.{plusOf}
+use Rattle.numbers.specs.Constants.{zero64}
 use Rattle.terms.specs.Branch.{first, orAt, rowOf}
 use Rattle.terms.specs.Start.{share, coalesced}
 use Rattle.terms.specs.Term.{Term, term, noTerm, isIn, addTo}
@@ -72,7 +72,7 @@ module _ (k : Key) where
   in-none [] f = refl
   in-none (x ∷ ts) f = λ i. f zero (suc-le-suc zero-le) i || in-none ts (λ l b. f (suc l) (suc-le-suc b)) i
 
-module _ (k : Key) (c : Complex64) where
+module _ (k : Key) (c : Float) where
   add-at : (ts : List Term) (j : ℕ) → j < length ts → sameKey k (getD ts j noTerm .key) ≡ true → ((l : ℕ) → l < j → sameKey k (getD ts l noTerm .key) ≡ false)
       → addTo k c ts ≡ set ts j (term (getD ts j noTerm .key) (plusOf (getD ts j noTerm .coeff) c))
   unfolding addTo
@@ -82,7 +82,7 @@ module _ (k : Key) (c : Complex64) where
       ap (λ (b : Bool). cond b (term (x .key) (plusOf (x .coeff) c) ∷ ts) (x ∷ addTo k c ts)) (f zero (suc-le-suc zero-le))
       ∙ ap (λ (l : List Term). x ∷ l) (add-at ts j (le-of-suc-le-suc h) t (λ l b. f (suc l) (suc-le-suc b)))
 
-  add-new : (ts : List Term) (d : Complex64) → ((l : ℕ) → l < length ts → sameKey k (getD ts l noTerm .key) ≡ false)
+  add-new : (ts : List Term) (d : Float) → ((l : ℕ) → l < length ts → sameKey k (getD ts l noTerm .key) ≡ false)
       → addTo k c (ts ++ (term k d ∷ [])) ≡ ts ++ (term k (plusOf d c) ∷ [])
   unfolding addTo
   add-new [] d f = ap (λ (b : Bool). cond b (term k (plusOf d c) ∷ []) (term k d ∷ [])) (sameKey-refl k)
@@ -98,16 +98,16 @@ module _ (ts : List Term) (t : Term) where
       let p : ℕ → Bool = λ l. sameKey (getD ts l noTerm .key) (t .key) in
       let f = first-at p (length ts) j e in
       let here : sameKey (t .key) (getD ts j noTerm .key) ≡ true = same-back (getD ts j noTerm .key) (t .key) (f .1) in
-      ap (λ (b : Bool). addTo (t .key) (t .coeff) (cond b ts (ts ++ (term (t .key) none64 ∷ [])))) (in-at (t .key) ts j (f .0) here)
+      ap (λ (b : Bool). addTo (t .key) (t .coeff) (cond b ts (ts ++ (term (t .key) zero64 ∷ [])))) (in-at (t .key) ts j (f .0) here)
       ∙ add-at (t .key) (t .coeff) ts j (f .0) here (λ l h. differ-back (getD ts l noTerm .key) (t .key) (first-least p (length ts) j e l h))
 
-  pub share-new : rowOf (length ts) (t .key) ts ≡ Nothing → share ts t ≡ ts ++ (term (t .key) (plusOf none64 (t .coeff)) ∷ [])
+  pub share-new : rowOf (length ts) (t .key) ts ≡ Nothing → share ts t ≡ ts ++ (term (t .key) (plusOf zero64 (t .coeff)) ∷ [])
   unfolding share
   share-new e =
       let none : (l : ℕ) → l < length ts → sameKey (t .key) (getD ts l noTerm .key) ≡ false =
       λ l h. differ-back (getD ts l noTerm .key) (t .key) (first-nothing (λ j. sameKey (getD ts j noTerm .key) (t .key)) (length ts) e l h) in
-      ap (λ (b : Bool). addTo (t .key) (t .coeff) (cond b ts (ts ++ (term (t .key) none64 ∷ [])))) (in-none (t .key) ts none)
-      ∙ add-new (t .key) (t .coeff) ts none64 none
+      ap (λ (b : Bool). addTo (t .key) (t .coeff) (cond b ts (ts ++ (term (t .key) zero64 ∷ [])))) (in-none (t .key) ts none)
+      ∙ add-new (t .key) (t .coeff) ts zero64 none
 
 -- ---- the rows
 
@@ -144,7 +144,7 @@ module _ {s n : ℕ} {ws₀ ws : List ℕ} {cs₀ cs : List Float} {m i : ℕ} (
       let few = C .few in
       let now : Room s n ws cs = hold-room (C .held) room in
       let at = first-at (λ j. sameKey (keyAt s ws j) (keyAt s ws i)) m j e .0 in
-      let v : Complex64 = plusOf (coeffAt cs j) (coeffAt cs i) in
+      let v : Float = plusOf (coeffAt cs j) (coeffAt cs i) in
       let after : coalesced (termsIn s (i + 1) ws₀ cs₀) ≡ set old j (term (keyAt s ws j) v) =
       next ∙ share-at old t j (search-same ∙ e)
       ∙ ap (λ (u : Term). set old j (term (u .key) (plusOf (u .coeff) (coeffAt cs i)))) (hold-at (C .held) j at) in
@@ -158,7 +158,7 @@ module _ {s n : ℕ} {ws₀ ws : List ℕ} {cs₀ cs : List Float} {m i : ℕ} (
       let now : Room s n ws cs = hold-room (C .held) room in
       let whole : length (keyAt s ws i) ≡ s = length-key s ws i (room-at now i h .0) in
       let at-m = room-at now m (omega arith) .0 in
-      let v : Complex64 = plusOf none64 (coeffAt cs i) in
+      let v : Float = plusOf zero64 (coeffAt cs i) in
       let after : coalesced (termsIn s (i + 1) ws₀ cs₀) ≡ old ++ (term (keyAt s ws i) v ∷ []) = next ∙ share-new old t (search-same ∙ e) in
       rw (ew, ec, er) (record {
         held = rw after (hold-push (C .held) now (omega arith) (term (keyAt s ws i) v) whole);
@@ -175,9 +175,9 @@ module _ {s n : ℕ} {ws₀ ws : List ℕ} {cs₀ cs : List Float} {m i : ℕ} (
 pub new-key : (s i m : ℕ) (ws : List ℕ) {ws′ : List ℕ} → m ≤ i → i * s + s ≤ length ws → ws′ ≡ copiedRow s ws i m → ws′ ≡ putKey s ws m (keyAt s ws i)
 new-key s i m ws h r e = e ∙ copied-in s ws i m r (let k : m * s ≤ i * s = mul-le-mul-right s h in omega arith)
 
-pub new-coeffs : (cs : List Float) (i m : ℕ) {cs′ : List Float} {v u : Complex64} → v ≡ coeffAt cs i → u ≡ plusOf none64 v → cs′ ≡ putCoeff cs m u
-    → cs′ ≡ putCoeff cs m (plusOf none64 (coeffAt cs i))
-new-coeffs cs i m ev eu e = e ∙ ap (putCoeff cs m) (eu ∙ ap (plusOf none64) ev)
+pub new-coeffs : (cs : List Float) (i m : ℕ) {cs′ : List Float} {v u : Float} → v ≡ coeffAt cs i → u ≡ plusOf zero64 v → cs′ ≡ putCoeff cs m u
+    → cs′ ≡ putCoeff cs m (plusOf zero64 (coeffAt cs i))
+new-coeffs cs i m ev eu e = e ∙ ap (putCoeff cs m) (eu ∙ ap (plusOf zero64) ev)
 
 module _ (s i m : ℕ) (ws : List ℕ) (cs : List Float) where
   abbrev found : Found
@@ -193,7 +193,7 @@ module _ (s i m : ℕ) (ws : List ℕ) (cs : List Float) where
       record { words = ap (sharedWords s i m ws) at; coeffs = ec ∙ ap (sharedCoeffs i m cs) at; count = ap (sharedCount m) at }
 
   pub shared-new : {f : Found} {ws′ : List ℕ} {cs′ : List Float} → f ≡ found → f ≡ Nothing
-      → (ws′ ≡ putKey s ws m (keyAt s ws i)) × (cs′ ≡ putCoeff cs m (plusOf none64 (coeffAt cs i))) → SharedRow s i m found (m + 1) ws ws′ cs cs′
+      → (ws′ ≡ putKey s ws m (keyAt s ws i)) × (cs′ ≡ putCoeff cs m (plusOf zero64 (coeffAt cs i))) → SharedRow s i m found (m + 1) ws ws′ cs cs′
   shared-new e q r =
       let at : Nothing ≡ found = sym q ∙ e in
       record { words = r .0 ∙ ap (sharedWords s i m ws) at; coeffs = r .1 ∙ ap (sharedCoeffs i m cs) at; count = ap (sharedCount m) at }

@@ -12,9 +12,7 @@ use lib.Ieee.{Float, nan, neg}
 use borrow.Author.Tests.{lt-ltb, le-ltb, le-leb, lt-leb}
 use Rattle.numbers.specs.Constants.{zero64}
 use Rattle.words.proofs.RowSteps.{row-fits}
-use Rattle.terms.specs.declared.Complex64.{Complex64}
 use Rattle.terms.specs.Lists.{tab}
-use Rattle.terms.specs.Coefficient.{complex, turnedOf}
 use Rattle.terms.specs.Start.{ysOf, termOf, coalesced, merged}
 use Rattle.terms.specs.Term.{Term}
 use Rattle.terms.proofs.CaseLaws.{and-false}
@@ -40,24 +38,21 @@ module _ (s : ℕ) (ws : List ℕ) (row : ℕ) (keys : List ℕ) (line : ℕ) wh
 
 -- ---- one row
 
-turned-mod : (n : ℕ) (c : Complex64) → turnedOf (n % 4) c ≡ turnedOf n c
-unfolding turnedOf
-turned-mod n c =
-    let same : n % 4 % 4 ≡ n % 4 = omega arith in
-    ap (λ (k : ℕ). cond (eqb k 1) (complex (neg (c .im)) (c .re)) (cond (eqb k 2) (complex (neg (c .re)) (neg (c .im))) (cond (eqb k 3) (complex (c .im) (neg (c .re))) c))) same
+mod-mod : (n : ℕ) → n % 4 % 4 ≡ n % 4
+mod-mod n = omega arith
 
 pub line-room : (w line : ℕ) (keys : List ℕ) → line < length keys / (2 * w) → line * (2 * w) + 2 * w ≤ length keys
 line-room w line keys h = row-fits (length keys) w line h
 
 module _ (w row line : ℕ) (keys : List ℕ) (weight : Float) (ws : List ℕ) (cs : List Float) where
-  pub line-row : {ws′ : List ℕ} {cs′ : List Float} {q : ℕ} {u : Complex64} → ws′ ≡ putKey (2 * w) ws row (keyAt (2 * w) keys line)
-      → q ≡ ysOf w (take (line * (2 * w) + 2 * w - line * (2 * w)) (drop (line * (2 * w)) keys)) % 4 → u ≡ turnedOf q (complex weight zero64) → cs′ ≡ putCoeff cs row u
+  pub line-row : {ws′ : List ℕ} {cs′ : List Float} {q : ℕ} {u : Float} → ws′ ≡ putKey (2 * w) ws row (keyAt (2 * w) keys line)
+      → q ≡ ysOf w (take (line * (2 * w) + 2 * w - line * (2 * w)) (drop (line * (2 * w)) keys)) % 4 → u ≡ cond (ltb 1 (q % 4)) (neg weight) weight → cs′ ≡ putCoeff cs row u
       → (ws′ ≡ putKey (2 * w) ws row (termOf w (keyAt (2 * w) keys line) weight .key)) × (cs′ ≡ putCoeff cs row (termOf w (keyAt (2 * w) keys line) weight .coeff))
   unfolding termOf
   line-row {q = q} ew eq eu ec =
       let size : line * (2 * w) + 2 * w - line * (2 * w) ≡ 2 * w = omega arith in
       let part : q ≡ ysOf w (keyAt (2 * w) keys line) % 4 = eq ∙ ap (λ (n : ℕ). ysOf w (take n (drop (line * (2 * w)) keys)) % 4) size in
-      (ew, ec ∙ ap (putCoeff cs row) (eu ∙ ap (λ (n : ℕ). turnedOf n (complex weight zero64)) part ∙ turned-mod (ysOf w (keyAt (2 * w) keys line)) (complex weight zero64)))
+      (ew, ec ∙ ap (putCoeff cs row) (eu ∙ ap (λ (n : ℕ). cond (ltb 1 (n % 4)) (neg weight) weight) part ∙ ap (λ (n : ℕ). cond (ltb 1 n) (neg weight) weight) (mod-mod (ysOf w (keyAt (2 * w) keys line)))))
 
 -- ---- a turn of the loop over the lines
 
@@ -97,7 +92,7 @@ module _ (room : Bool) (w R : ℕ) (ts : List Term) (ws : List ℕ) (cs : List F
     coeffs = ap (λ (b : Bool). cond b (coeffsWith R ts cs) cs) (sym e);
   }
 
-  started-held : {ws′ : List ℕ} {cs′ : List Float} → room ≡ true → 2 * R ≤ length cs → Holds (2 * w) R R ts ws ws′ cs cs′ → Started room w R ts R ws ws′ cs cs′
+  started-held : {ws′ : List ℕ} {cs′ : List Float} → room ≡ true → R ≤ length cs → Holds (2 * w) R R ts ws ws′ cs cs′ → Started room w R ts R ws ws′ cs cs′
   started-held {ws′} {cs′} e h H =
       subst (λ (r : ℕ). Started room w R ts r ws ws′ cs cs′) (hold-count H) (started e (held-words w H) (held-coeffs w H h))
 
@@ -190,5 +185,5 @@ module _ (w lines : ℕ) (keys : List ℕ) (weights : List Float) (ws : List ℕ
         ∙ ap (λ (l : List ℕ). keysOf ts ++ (replicate ((lines - length ts) * (2 * w)) 0 ++ l)) (H .words-kept) in
         let coeffs : cs₂ ≡ coeffsWith lines ts cs =
         S .coeffs ∙ ap₂ (λ (b : Bool) (l : List Term). cond b (coeffsWith lines l cs₁) cs₁) room same
-        ∙ ap (λ (l : List Float). coeffsOf ts ++ (replicate (2 * (lines - length ts)) zero64 ++ l)) (H .coeffs-kept) in
+        ∙ ap (λ (l : List Float). coeffsOf ts ++ (replicate (lines - length ts) zero64 ++ l)) (H .coeffs-kept) in
         subst (λ (n : ℕ). Started allLines w lines ts n ws ws₂ cs cs₂) (sym count) (started allLines w lines ts ws cs yes words coeffs)

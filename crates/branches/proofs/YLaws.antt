@@ -1,44 +1,10 @@
--- How often the letter Y stands in a word, modulo 4: bits past the end are clear, so the words that are there say it all. Assumes nothing.
+-- How often the letter Y stands in a word, modulo 4, qubit by qubit. Assumes nothing.
 use mathlib.Core.Path.{_≡_, sym, ap, _∙_}
 use mathlib.Core.Bool.{Bool, true, false, cond, _&&_}
-use mathlib.Core.Logic.{⊎-elim}
-use Prim.Native.Nat.{ℕ, zero, suc, _+_, _-_, _*_, _/_, _%_, _^_, _≤_, _<_, min}
-use native.Mathlib.Nat.{zero-add, add-zero, add-suc, zero-div}
+use Prim.Native.Nat.{ℕ, suc, _+_, _*_, _%_}
 use native.Mathlib.Omega.{arith}
-use lib.Dec.{eqb}
-use lib.ListN.{length, List·getD-eq-default}
-use Rattle.words.specs.Keys.{Key, bitOf, bitAt, zAt}
-use Rattle.terms.specs.Start.{countY, ysOf}
-use Rattle.terms.proofs.CaseLaws.{lt-or-le, and-false}
-
-bit-clear : (k : Key) (i : ℕ) → 64 * length k ≤ i → bitAt k i ≡ false
-unfolding bitAt bitOf
-bit-clear k i h =
-    let past : length k ≤ i / 64 = omega arith in
-    ap (λ (x : ℕ). eqb (x / 2 ^ (i % 64) % 2) 1) (List·getD-eq-default k 0 past) ∙ ap (λ (x : ℕ). eqb (x % 2) 1) (zero-div (2 ^ (i % 64)))
-
--- qubits whose z bit lies past the end
-count-past : (w p d : ℕ) (k : Key) → 64 * length k ≤ zAt w p → countY w (p + d) k ≡ countY w p k
-unfolding countY
-count-past w p zero k h = ap (λ (n : ℕ). countY w n k) (add-zero p)
-count-past w p (suc d) k h =
-    ap (λ (n : ℕ). countY w n k) (add-suc p d)
-    ∙ ap (λ (b : Bool). cond (bitAt k (p + d) && b) 1 0 + countY w (p + d) k) (bit-clear k (zAt w (p + d)) (omega arith))
-    ∙ ap (λ (b : Bool). cond b 1 0 + countY w (p + d) k) (and-false (bitAt k (p + d)))
-    ∙ zero-add (countY w (p + d) k) ∙ count-past w p d k h
-
-pub no-ys : (w : ℕ) (k : Key) → length k ≤ w → ysOf w k ≡ 0
-unfolding countY
-no-ys w k h = ap (λ (n : ℕ). countY w n k) (sym (zero-add (64 * w))) ∙ count-past w 0 (64 * w) k (omega arith)
-
--- the x words whose z word is there
-pub ys-whole : (w : ℕ) (k : Key) {m : ℕ} → w < length k → m ≡ min w (length k - w) → countY w (64 * m) k ≡ ysOf w k
-ys-whole w k {m} h e = ⊎-elim
-    (λ (l : m < w).
-    let all : 64 * m + 64 * (w - m) ≡ 64 * w = omega arith in
-    sym (count-past w (64 * m) (64 * (w - m)) k (omega arith)) ∙ ap (λ (n : ℕ). countY w n k) all)
-    (λ (l : w ≤ m). let same : 64 * m ≡ 64 * w = omega arith in ap (λ (n : ℕ). countY w n k) same)
-    (lt-or-le m w)
+use Rattle.words.specs.Keys.{Key, bitAt, zAt}
+use Rattle.terms.specs.Start.{countY}
 
 mod-add : (a b : ℕ) → (a + b % 4) % 4 ≡ (a + b) % 4
 mod-add a b = omega arith

@@ -12,7 +12,7 @@ use Rattle.rows.specs.Rows.{termsIn, Grown}
 
 pub record Rotated (w n : ℕ) (x : Axis) (sin cos : Float) (r : ℕ) (ws ws′ : List ℕ) (cs cs′ : List Float) : Type 0 where
   -- always: the rotation in place, row after row
-  pub in-place : Grown w n (branched (metBy x) (partnerBy w x) sin cos (termsIn (2 * w) n ws cs)) r ws ws′ cs cs′
+  pub in-place : Grown w n (branched w (metBy x) (partnerBy w x) sin cos (termsIn (2 * w) n ws cs)) r ws ws′ cs cs′
   -- at targets that the words have, for terms with distinct words: the rotation from the old values
   pub from-old : onKey w x ≡ true → Distinct (termsIn (2 * w) n ws cs)
-      → Grown w n (rotated (metBy x) (partnerBy w x) sin cos (termsIn (2 * w) n ws cs)) r ws ws′ cs cs′
+      → Grown w n (rotated w (metBy x) (partnerBy w x) sin cos (termsIn (2 * w) n ws cs)) r ws ws′ cs cs′

@@ -8,7 +8,8 @@ use lib.Ieee.{Float, nan}
 use Rattle.terms.specs.declared.Found.{Found}
 use Rattle.terms.specs.declared.Found.the-variants.{At, Nothing}
 use Rattle.terms.specs.Lists.{tab}
-use Rattle.terms.specs.Coefficient.{none64, plusOf}
+use Rattle.terms.specs.Coefficient.{plusOf}
+use Rattle.numbers.specs.Constants.{zero64}
 use Rattle.terms.specs.Term.{Term}
 use Rattle.terms.specs.Start.{termOf}
 use Rattle.rows.specs.Rows.{keyAt, coeffAt, putKey, putCoeff, wordsWith, coeffsWith}
@@ -31,7 +32,7 @@ sharedWords s i m ws Nothing = putKey s ws m (keyAt s ws i)
 
 abbrev pub sharedCoeffs : ℕ → ℕ → List Float → Found → List Float
 sharedCoeffs i m cs (At j) = putCoeff cs j (plusOf (coeffAt cs j) (coeffAt cs i))
-sharedCoeffs i m cs Nothing = putCoeff cs m (plusOf none64 (coeffAt cs i))
+sharedCoeffs i m cs Nothing = putCoeff cs m (plusOf zero64 (coeffAt cs i))
 
 abbrev pub sharedCount : ℕ → Found → ℕ
 sharedCount m (At j) = m

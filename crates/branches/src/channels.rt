@@ -22,8 +22,8 @@ use rows::row;
 use terms::Axis;
 use terms::ChannelAction;
 use terms::ChannelKind;
-use terms::Complex64;
 use terms::Found;
+use terms::number;
 use words::keys::get_bit;
 
 // The index of the letter's multiplier, or nothing for the identity.
@@ -52,7 +52,7 @@ fn row_letter(words: &[u64], w: usize, i: usize, q: usize) -> Found
 
 // Row i times the multiplier of its letter.
 fn scale_letter(words: &[u64], coeffs: &mut [f64], w: usize, i: usize, q: usize, lambda: [f64; 3])
-    requires { ⌜ (i * (2 * w) + 2 * w ≤ length (now words)) × (2 * i + 1 < length (now coeffs)) ⌝ }
+    requires { ⌜ (i * (2 * w) + 2 * w ≤ length (now words)) × (i < length (now coeffs)) ⌝ }
     ensures { λ _. ⌜ now (coeffs .exit) ≡ putCoeff (now (coeffs .entry)) i (scaledLetter w q lambda (termAt (2 * w) (now (words .entry)) (now (coeffs .entry)) i) .coeff) ⌝ }
 {
     let letter = row_letter(words, w, i, q);
@@ -60,7 +60,7 @@ fn scale_letter(words: &[u64], coeffs: &mut [f64], w: usize, i: usize, q: usize,
         return;
     };
     let v = row::value_at(coeffs, i);
-    row::store_value(coeffs, i, v.scaled(lambda[l]));
+    row::store_value(coeffs, i, number::scaled(v, lambda[l]));
 }
 
 fn scale_letters(words: &[u64], coeffs: &mut [f64], w: usize, n: usize, q: usize, lambda: [f64; 3])
@@ -97,7 +97,7 @@ fn insert_identity(
     m: usize,
     i: usize,
     q: usize,
-    d: Complex64,
+    d: f64,
 ) -> usize
     requires { ⌜ (i < m) × Room (2 * w) (m + 1) (now words) (now coeffs) × (isZLetter w q (keyAt (2 * w) (now words) i) ≡ true)
         × Spare (m + 1) buckets (length (now index)) × Indexed (Identity q) w (now words) m buckets (now index) ⌝ }
@@ -113,7 +113,7 @@ fn insert_identity(
         return m + 1;
     };
     let u = row::value_at(coeffs, j);
-    row::store_value(coeffs, j, u.plus(d));
+    row::store_value(coeffs, j, number::plus(u, d));
     m
 }
 
@@ -138,7 +138,17 @@ fn branch_identity(
 {
     if row_is_z(words, w, i, q) {
         let c = row::value_at(coeffs, i);
-        return insert_identity(words, coeffs, index, buckets, w, m, i, q, c.scaled(f));
+        return insert_identity(
+            words,
+            coeffs,
+            index,
+            buckets,
+            w,
+            m,
+            i,
+            q,
+            number::scaled(c, f),
+        );
     }
     m
 }
@@ -182,7 +192,7 @@ fn row_has_letter(words: &[u64], w: usize, i: usize, q: usize) -> bool
 
 // Row i times f, if it has a letter at one of two qubits.
 fn scale_either(words: &[u64], coeffs: &mut [f64], w: usize, i: usize, a: usize, b: usize, f: f64)
-    requires { ⌜ (i * (2 * w) + 2 * w ≤ length (now words)) × (2 * i + 1 < length (now coeffs)) ⌝ }
+    requires { ⌜ (i * (2 * w) + 2 * w ≤ length (now words)) × (i < length (now coeffs)) ⌝ }
     ensures { λ _. ⌜ now (coeffs .exit) ≡ putCoeff (now (coeffs .entry)) i (scaledEither w a b f (termAt (2 * w) (now (words .entry)) (now (coeffs .entry)) i) .coeff) ⌝ }
 {
     let first = row_has_letter(words, w, i, a);
@@ -190,7 +200,7 @@ fn scale_either(words: &[u64], coeffs: &mut [f64], w: usize, i: usize, a: usize,
     let met = either(first, second);
     if met {
         let v = row::value_at(coeffs, i);
-        row::store_value(coeffs, i, v.scaled(f));
+        row::store_value(coeffs, i, number::scaled(v, f));
     }
 }
 

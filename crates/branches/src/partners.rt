@@ -6,7 +6,6 @@ ghost use Rattle.terms.specs.Rotation.{partnerBy};
 ghost use Rattle.rows.specs.Rows.{keyAt, putKey, putCoeff};
 use rows::row;
 use terms::Axis;
-use terms::Complex64;
 use words::keys::flip_bit;
 
 // Flips z at every target of a key.
@@ -41,9 +40,9 @@ pub(crate) fn append_partner(
     m: usize,
     i: usize,
     axis: Axis,
-    c: Complex64,
+    c: f64,
 )
-    requires { ⌜ (i < m) × (m * (2 * w) + 2 * w ≤ length (now words)) × (2 * m + 1 < length (now coeffs)) ⌝ }
+    requires { ⌜ (i < m) × (m * (2 * w) + 2 * w ≤ length (now words)) × (m < length (now coeffs)) ⌝ }
     ensures { λ _. ⌜ (now (words .exit) ≡ putKey (2 * w) (now (words .entry)) m (partnerBy w axis (keyAt (2 * w) (now (words .entry)) i)))
         × (now (coeffs .exit) ≡ putCoeff (now (coeffs .entry)) m c) ⌝ }
 {

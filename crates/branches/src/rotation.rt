@@ -1,8 +1,10 @@
 // A Pauli rotation on every term: t, tdg, rz, p and rzz.
 ghost use mathlib.Core.Path.{_≡_};
+ghost use mathlib.Core.Bool.{not};
 ghost use mathlib.Core.List.{[], _∷_, map};
 ghost use Prim.Native.Nat.{_+_, _*_, _≤_, _<_};
 ghost use lib.ListN.{length};
+ghost use Rattle.terms.specs.Letters.{isOdd};
 ghost use Rattle.terms.specs.Rotation.{metBy, partnerBy, scaledMet, mixed};
 ghost use Rattle.terms.specs.Branch.{branchLone, branchRow, branchTo};
 ghost use Rattle.terms.specs.declared.Axis.the-variants.{Z, Zz};
@@ -18,21 +20,22 @@ use rows::letters::met_rows;
 use rows::row;
 use terms::Axis;
 use terms::Found;
+use terms::number;
 
 // Row i times the cosine, if it is met.
 fn scale_row(words: &[u64], coeffs: &mut [f64], w: usize, i: usize, axis: Axis, sin: f64, cos: f64)
-    requires { ⌜ (i * (2 * w) + 2 * w ≤ length (now words)) × (2 * i + 1 < length (now coeffs)) ⌝ }
-    ensures { λ _. ⌜ now (coeffs .exit) ≡ putCoeff (now (coeffs .entry)) i (scaledMet (metBy axis) (partnerBy w axis) sin cos (termAt (2 * w) (now (words .entry)) (now (coeffs .entry)) i) .coeff) ⌝ }
+    requires { ⌜ (i * (2 * w) + 2 * w ≤ length (now words)) × (i < length (now coeffs)) ⌝ }
+    ensures { λ _. ⌜ now (coeffs .exit) ≡ putCoeff (now (coeffs .entry)) i (scaledMet w (metBy axis) (partnerBy w axis) sin cos (termAt (2 * w) (now (words .entry)) (now (coeffs .entry)) i) .coeff) ⌝ }
 {
     if probe::row_met(words, w, i, axis) {
         let v = row::value_at(coeffs, i);
-        row::store_value(coeffs, i, v.scaled(cos));
+        row::store_value(coeffs, i, number::scaled(v, cos));
     }
 }
 
 fn scale_rows(words: &[u64], coeffs: &mut [f64], w: usize, n: usize, axis: Axis, sin: f64, cos: f64)
     requires { ⌜ Room (2 * w) n (now words) (now coeffs) ⌝ }
-    ensures { λ _. ⌜ Holds (2 * w) n n (map (scaledMet (metBy axis) (partnerBy w axis) sin cos) (termsIn (2 * w) n (now (words .entry)) (now (coeffs .entry))))
+    ensures { λ _. ⌜ Holds (2 * w) n n (map (scaledMet w (metBy axis) (partnerBy w axis) sin cos) (termsIn (2 * w) n (now (words .entry)) (now (coeffs .entry))))
         (now (words .entry)) (now (words .entry)) (now (coeffs .entry)) (now (coeffs .exit)) ⌝ }
 {
     let mut i = 0;
@@ -42,17 +45,26 @@ fn scale_rows(words: &[u64], coeffs: &mut [f64], w: usize, n: usize, axis: Axis,
     }
 }
 
-// Two rows that are each other's partners, each from the old values.
-fn pair_rows(coeffs: &mut [f64], i: usize, j: usize, sin: f64, cos: f64)
-    requires { ⌜ (2 * i + 1 < length (now coeffs)) × (2 * j + 1 < length (now coeffs)) ⌝ }
+// Two rows that are each other's partners, each from the old values; the Y letters of row i are odd in number if `odd` is odd, those of row j if
+// it is not.
+fn pair_rows(coeffs: &mut [f64], i: usize, j: usize, odd: usize, sin: f64, cos: f64)
+    requires { ⌜ (i < length (now coeffs)) × (j < length (now coeffs)) ⌝ }
     ensures { λ _. ⌜ now (coeffs .exit) ≡ putCoeff
-        (putCoeff (now (coeffs .entry)) i (mixed sin cos (coeffAt (now (coeffs .entry)) i) (coeffAt (now (coeffs .entry)) j)))
-        j (mixed sin cos (coeffAt (now (coeffs .entry)) j) (coeffAt (now (coeffs .entry)) i)) ⌝ }
+        (putCoeff (now (coeffs .entry)) i (mixed (isOdd odd) sin cos (coeffAt (now (coeffs .entry)) i) (coeffAt (now (coeffs .entry)) j)))
+        j (mixed (not (isOdd odd)) sin cos (coeffAt (now (coeffs .entry)) j) (coeffAt (now (coeffs .entry)) i)) ⌝ }
 {
     let a = row::value_at(coeffs, i);
     let b = row::value_at(coeffs, j);
-    row::store_value(coeffs, i, a.scaled(cos).plus(b.flipped(sin)));
-    row::store_value(coeffs, j, b.scaled(cos).plus(a.flipped(sin)));
+    row::store_value(
+        coeffs,
+        i,
+        number::plus(number::scaled(a, cos), number::flipped(b, odd % 2 + 1, sin)),
+    );
+    row::store_value(
+        coeffs,
+        j,
+        number::plus(number::scaled(b, cos), number::flipped(a, odd, sin)),
+    );
 }
 
 // Row i without a partner: rewritten where the cosine is 0, else scaled, with its partner's word appended as row m.
@@ -67,17 +79,19 @@ fn lone_row(
     cos: f64,
 ) -> usize
     requires { ⌜ (i < m) × Room (2 * w) (m + 1) (now words) (now coeffs) ⌝ }
-    ensures { λ r. ⌜ (m ≤ r) × (r ≤ m + 1) × Holds (2 * w) r r (branchLone (metBy axis) (partnerBy w axis) sin cos i (termsIn (2 * w) m (now (words .entry)) (now (coeffs .entry))))
+    ensures { λ r. ⌜ (m ≤ r) × (r ≤ m + 1) × Holds (2 * w) r r (branchLone w (metBy axis) (partnerBy w axis) sin cos i (termsIn (2 * w) m (now (words .entry)) (now (coeffs .entry))))
         (now (words .entry)) (now (words .exit)) (now (coeffs .entry)) (now (coeffs .exit)) ⌝ }
 {
     let c = row::value_at(coeffs, i);
+    let odd = probe::row_odd(words, w, i);
+    let turned = number::flipped(c, odd, sin);
     if cos == 0.0 {
         partners::flip_row(words, w, i, axis);
-        row::store_value(coeffs, i, c.flipped(sin));
+        row::store_value(coeffs, i, turned);
         return m;
     }
-    row::store_value(coeffs, i, c.scaled(cos));
-    partners::append_partner(words, coeffs, w, m, i, axis, c.flipped(sin));
+    row::store_value(coeffs, i, number::scaled(c, cos));
+    partners::append_partner(words, coeffs, w, m, i, axis, turned);
     m + 1
 }
 
@@ -96,7 +110,7 @@ fn branch_row(
 ) -> usize
     requires { ⌜ (i < n) × (n ≤ m) × Room (2 * w) (m + 1) (now words) (now coeffs)
         × Tabled axis w (now words) n i buckets (now index) ⌝ }
-    ensures { λ r. ⌜ (m ≤ r) × (r ≤ m + 1) × Holds (2 * w) r r (branchRow (metBy axis) (partnerBy w axis) sin cos n i (termsIn (2 * w) m (now (words .entry)) (now (coeffs .entry))))
+    ensures { λ r. ⌜ (m ≤ r) × (r ≤ m + 1) × Holds (2 * w) r r (branchRow w (metBy axis) (partnerBy w axis) sin cos n i (termsIn (2 * w) m (now (words .entry)) (now (coeffs .entry))))
         (now (words .entry)) (now (words .exit)) (now (coeffs .entry)) (now (coeffs .exit)) ⌝ }
 {
     if !probe::row_met(words, w, i, axis) {
@@ -107,7 +121,8 @@ fn branch_row(
         return lone_row(words, coeffs, w, m, i, axis, sin, cos);
     };
     if i < j {
-        pair_rows(coeffs, i, j, sin, cos);
+        let odd = probe::row_odd(words, w, i);
+        pair_rows(coeffs, i, j, odd, sin, cos);
     }
     m
 }
@@ -124,7 +139,7 @@ fn branch_rows(
     cos: f64,
 ) -> usize
     requires { ⌜ Room (2 * w) (2 * n) (now words) (now coeffs) × Tabled axis w (now words) n 0 buckets (now index) ⌝ }
-    ensures { λ r. ⌜ (r ≤ 2 * n) × Holds (2 * w) r r (branchTo (metBy axis) (partnerBy w axis) sin cos n n (termsIn (2 * w) n (now (words .entry)) (now (coeffs .entry))))
+    ensures { λ r. ⌜ (r ≤ 2 * n) × Holds (2 * w) r r (branchTo w (metBy axis) (partnerBy w axis) sin cos n n (termsIn (2 * w) n (now (words .entry)) (now (coeffs .entry))))
         (now (words .entry)) (now (words .exit)) (now (coeffs .entry)) (now (coeffs .exit)) ⌝ }
 {
     let mut m = n;

@@ -4,10 +4,12 @@ ghost use mathlib.Core.Bool.{false, cond, _&&_};
 ghost use mathlib.Core.List.{[], _∷_};
 ghost use Prim.Native.Nat.{_+_, _*_, _/_, _%_, _≤_, _<_, min};
 ghost use lib.Dec.{leb, ltb};
+ghost use lib.Ieee.{neg};
 ghost use lib.ListN.{length};
 ghost use Rattle.words.specs.Keys.{bitAt, zAt, sameKey};
 ghost use Rattle.terms.specs.Branch.{first};
-ghost use Rattle.terms.specs.Coefficient.{none64, plusOf};
+ghost use Rattle.numbers.specs.Constants.{zero64};
+ghost use Rattle.terms.specs.Coefficient.{plusOf};
 ghost use Rattle.terms.specs.Start.{countY, ysOf, termOf, coalesced, merged};
 ghost use Rattle.rows.specs.Rows.{keyAt, coeffAt, termsIn, rowsIn, putKey, putCoeff, Room, Holds, Stepped};
 ghost use Rattle.branches.specs.declared.Sought.the-variants.{Same};
@@ -17,8 +19,8 @@ use crate::Sought;
 use crate::chains;
 use rows::clear::clear_rows;
 use rows::row;
-use terms::Complex64;
 use terms::Found;
+use terms::number;
 use words::keys::get_bit;
 use words::rows::rows_of;
 
@@ -78,6 +80,13 @@ pub fn y_quarters(key: &[u64], w: usize) -> u8
     quarters
 }
 
+// The weight, negated for two or three quarter turns.
+fn signed(quarters: u8, weight: f64) -> f64
+    ensures { λ r. ⌜ r ≡ cond (ltb 1 (quarters % 4)) (neg weight) weight ⌝ }
+{
+    if 1 < quarters % 4 { -weight } else { weight }
+}
+
 // The key of a line, copied to a row.
 fn copy_line(words: &mut [u64], size: usize, row: usize, keys: &[u64], line: usize)
     requires { ⌜ (row * size + size ≤ length (now words)) × (line * size + size ≤ length (now keys)) ⌝ }
@@ -111,11 +120,7 @@ fn start_row(
     let e = a + size;
     copy_line(words, size, row, keys, line);
     let quarters = y_quarters(&keys[a..e], w);
-    let v = Complex64 {
-        re: weight,
-        im: 0.0,
-    };
-    row::store_value(coeffs, row, v.turned(quarters));
+    row::store_value(coeffs, row, signed(quarters, weight));
 }
 
 fn start_rows(
@@ -164,23 +169,22 @@ pub fn single_term(
 
 // Row i as row m, with its coefficient added to 0.
 fn new_row(words: &mut [u64], coeffs: &mut [f64], size: usize, i: usize, m: usize)
-    requires { ⌜ (m ≤ i) × ((i * size + size ≤ length (now words)) × (2 * i + 1 < length (now coeffs))) ⌝ }
+    requires { ⌜ (m ≤ i) × ((i * size + size ≤ length (now words)) × (i < length (now coeffs))) ⌝ }
     ensures { λ _. ⌜ (now (words .exit) ≡ putKey size (now (words .entry)) m (keyAt size (now (words .entry)) i))
-        × (now (coeffs .exit) ≡ putCoeff (now (coeffs .entry)) m (plusOf none64 (coeffAt (now (coeffs .entry)) i))) ⌝ }
+        × (now (coeffs .exit) ≡ putCoeff (now (coeffs .entry)) m (plusOf zero64 (coeffAt (now (coeffs .entry)) i))) ⌝ }
 {
     let v = row::value_at(coeffs, i);
-    let none = Complex64 { re: 0.0, im: 0.0 };
     row::copy_row(words, size, i, m);
-    row::store_value(coeffs, m, none.plus(v));
+    row::store_value(coeffs, m, number::plus(0.0, v));
 }
 
 fn add_row(coeffs: &mut [f64], i: usize, j: usize)
-    requires { ⌜ (2 * i + 1 < length (now coeffs)) × (2 * j + 1 < length (now coeffs)) ⌝ }
+    requires { ⌜ (i < length (now coeffs)) × (j < length (now coeffs)) ⌝ }
     ensures { λ _. ⌜ now (coeffs .exit) ≡ putCoeff (now (coeffs .entry)) j (plusOf (coeffAt (now (coeffs .entry)) j) (coeffAt (now (coeffs .entry)) i)) ⌝ }
 {
     let v = row::value_at(coeffs, i);
     let u = row::value_at(coeffs, j);
-    row::store_value(coeffs, j, u.plus(v));
+    row::store_value(coeffs, j, number::plus(u, v));
 }
 
 // Row i, added to that of the first m rows that has its key, or as row m, which then goes into the index. The answer is how many rows
@@ -194,7 +198,7 @@ fn share_row(
     i: usize,
     m: usize,
 ) -> usize
-    requires { ⌜ (m ≤ i) × ((i * (2 * w) + 2 * w ≤ length (now words)) × ((2 * i + 1 < length (now coeffs))
+    requires { ⌜ (m ≤ i) × ((i * (2 * w) + 2 * w ≤ length (now words)) × ((i < length (now coeffs))
         × (Spare (m + 1) buckets (length (now index)) × Indexed Same w (now words) m buckets (now index)))) ⌝ }
     ensures { λ r. ⌜ SharedRow (2 * w) i m (first (λ j. sameKey (keyAt (2 * w) (now (words .entry)) j) (keyAt (2 * w) (now (words .entry)) i)) m) r
         (now (words .entry)) (now (words .exit)) (now (coeffs .entry)) (now (coeffs .exit))

@@ -1,6 +1,7 @@
 -- The laws that the crates above may cite, and behind them what only this crate's proofs use.
 pub mod ValueLaws
 pub mod CloseLaws
+pub mod SignLaws
 pub mod TestLaws
 pub mod BitLaws
 pub mod RootLaws

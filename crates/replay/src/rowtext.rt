@@ -1,4 +1,6 @@
-// The rows that a run left, as text: `row=X:Z:RE,IM`, words split by commas, each word and number in 16 hexadecimal digits, zero as +0.
+// The rows that a run left, as text: `row=X:Z:RE,IM`, words split by commas, each word and number in 16 hexadecimal digits, zero as +0. A row
+// stores one number; its coefficient's parts are read from that and from its word.
+use published::complex_of;
 use replies::write::write_byte;
 use replies::write::write_hex;
 use replies::write::write_real;
@@ -23,10 +25,10 @@ fn number_at(coeffs: &[f64], i: usize) -> f64 {
     if i < coeffs.len() { coeffs[i] } else { 0.0 }
 }
 
-// The numbers after the first two.
+// The numbers after the first.
 fn later_numbers(coeffs: &[f64]) -> &[f64] {
-    if 2 <= coeffs.len() {
-        &coeffs[2..]
+    if 1 <= coeffs.len() {
+        &coeffs[1..]
     } else {
         &coeffs[..0]
     }
@@ -44,12 +46,12 @@ fn are_zero(words: &[u64]) -> bool {
     true
 }
 
-// Whether a row is zero: its words and its coefficient.
-fn is_zero_row(row: &[u64], re: f64, im: f64) -> bool {
+// Whether a row is zero: its words and its number.
+fn is_zero_row(row: &[u64], v: f64) -> bool {
     if !are_zero(row) {
         return false;
     }
-    if re == 0.0 { im == 0.0 } else { false }
+    v == 0.0
 }
 
 // The count i of rows where the last of them is not zero, and else the count before.
@@ -65,7 +67,7 @@ fn rows_left(words: &[u64], coeffs: &[f64], size: usize) -> usize {
     let mut i = 0;
     while i < 512 {
         i += 1;
-        let is_zero = is_zero_row(first_words(ws, size), number_at(cs, 0), number_at(cs, 1));
+        let is_zero = is_zero_row(first_words(ws, size), number_at(cs, 0));
         last = count_to(is_zero, i, last);
         let next_ws = later_words(ws, size);
         let next_cs = later_numbers(cs);
@@ -110,11 +112,14 @@ fn write_part(out: &mut [u8], at: usize, byte: u8, x: f64) -> usize {
 }
 
 // Writes the line of one row.
-fn write_row(out: &mut [u8], at: usize, row: &[u64], w: usize, re: f64, im: f64) -> usize {
+fn write_row(out: &mut [u8], at: usize, row: &[u64], w: usize, v: f64) -> usize {
+    let c = complex_of(row, w, v);
+    let re = c.re;
+    let im = c.im;
     let a = write_key(out, at, row, w);
     let b = write_part(out, a, 58, re);
-    let c = write_part(out, b, 44, im);
-    write_byte(out, c, 10)
+    let d = write_part(out, b, 44, im);
+    write_byte(out, d, 10)
 }
 
 // Writes the rows up to the last that is not zero, of w words x and w words z each.
@@ -135,14 +140,7 @@ pub(crate) fn write_rows(
     let mut place = at;
     let mut i = 0;
     while i < n {
-        place = write_row(
-            out,
-            place,
-            first_words(ws, size),
-            w,
-            number_at(cs, 0),
-            number_at(cs, 1),
-        );
+        place = write_row(out, place, first_words(ws, size), w, number_at(cs, 0));
         let next_ws = later_words(ws, size);
         let next_cs = later_numbers(cs);
         ws = next_ws;

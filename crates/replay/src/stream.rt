@@ -49,7 +49,7 @@ fn write_too_long(index: usize, out: &mut [u8]) -> usize {
 // Writes the number of a sheet in the stream, its printed lines and the rows that are left.
 fn write_answer(s: &[u8], index: usize, out: &mut [u8]) -> usize {
     let mut words = [0u64; 4096];
-    let mut coeffs = [0.0f64; 1024];
+    let mut coeffs = [0.0f64; 512];
     let mut lookup = [0u32; 1537];
     let mut means = [0.0f64; 256];
     let reply = answer(s, &mut words, &mut coeffs, &mut lookup, &mut means);

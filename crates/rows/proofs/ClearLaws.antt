@@ -38,7 +38,7 @@ module _ {A : Type 0} (z : A) (a : ℕ) (l : List A) where
 -- ---- rows that are cleared
 
 -- a row that both buffers hold whole
-pub row-room : (w i : ℕ) (ws : List ℕ) (cs : List Float) → i < rowsIn w ws cs → (i * (2 * w) + 2 * w ≤ length ws) × (2 * i + 1 < length cs)
+pub row-room : (w i : ℕ) (ws : List ℕ) (cs : List Float) → i < rowsIn w ws cs → (i * (2 * w) + 2 * w ≤ length ws) × (i < length cs)
 row-room w i ws cs h = room-at (rows-room w (i + 1) ws cs (omega arith)) i (omega arith)
 
 module _ (w from to : ℕ) (ws : List ℕ) (cs : List Float) where
@@ -50,11 +50,11 @@ module _ (w from to : ℕ) (ws : List ℕ) (cs : List Float) where
   clear-room h e r = (row-before (2 * w) h, rows-room w to ws cs (rw (← e) r) .words-room)
 
   cleared-by : {ws′ : List ℕ} {cs′ : List Float} (b : Bool) → clears ≡ b → ws′ ≡ cond b (filled 0 (from * (2 * w)) (to * (2 * w)) ws) ws
-      → cs′ ≡ cond b (filled zero64 (2 * from) (2 * to) cs) cs → Cleared w from to ws ws′ cs cs′
+      → cs′ ≡ cond b (filled zero64 from to cs) cs → Cleared w from to ws ws′ cs cs′
   cleared-by b e p q = record { words = rw e p; coeffs = rw e q }
 
   pub cleared : {r : ℕ} {ws′ : List ℕ} {cs′ : List Float} → from < to → r ≡ rowsIn w ws cs → to ≤ r → ws′ ≡ filled 0 (from * (2 * w)) (to * (2 * w)) ws
-      → cs′ ≡ filled zero64 (2 * from) (2 * to) cs → Cleared w from to ws ws′ cs cs′
+      → cs′ ≡ filled zero64 from to cs → Cleared w from to ws ws′ cs cs′
   cleared h e r p q = cleared-by true (rw (lt-ltb from to h, room-yes w to ws cs e r)) p q
 
   -- no rows, or rows that the buffers do not hold whole
@@ -66,18 +66,18 @@ module _ (w from to : ℕ) (ws : List ℕ) (cs : List Float) where
 
   -- both cases in one: an empty range leaves all as it is
   pub cleared-is : {ws′ : List ℕ} {cs′ : List Float} → from ≤ to → to ≤ rowsIn w ws cs → Cleared w from to ws ws′ cs cs′
-      → (ws′ ≡ filled 0 (from * (2 * w)) (to * (2 * w)) ws) × (cs′ ≡ filled zero64 (2 * from) (2 * to) cs)
+      → (ws′ ≡ filled 0 (from * (2 * w)) (to * (2 * w)) ws) × (cs′ ≡ filled zero64 from to cs)
   cleared-is h r C = ⊎-elim
       (λ (l : from < to).
       let t : clears ≡ true = rw (lt-ltb from to l, le-leb to (rowsIn w ws cs) r) in (
         C .words ∙ ap (λ (b : Bool). cond b (filled 0 (from * (2 * w)) (to * (2 * w)) ws) ws) t,
-        C .coeffs ∙ ap (λ (b : Bool). cond b (filled zero64 (2 * from) (2 * to) cs) cs) t,
+        C .coeffs ∙ ap (λ (b : Bool). cond b (filled zero64 from to cs) cs) t,
       ))
       (λ (l : to ≤ from).
       let t : clears ≡ false = rw (le-ltb from to l) in
       let e : from ≡ to = omega arith in (
         C .words ∙ ap (λ (b : Bool). cond b (filled 0 (from * (2 * w)) (to * (2 * w)) ws) ws) t ∙ filled-none 0 (from * (2 * w)) ws ∙ ap (λ (n : ℕ). filled 0 (from * (2 * w)) (n * (2 * w)) ws) e,
-        C .coeffs ∙ ap (λ (b : Bool). cond b (filled zero64 (2 * from) (2 * to) cs) cs) t ∙ filled-none zero64 (2 * from) cs ∙ ap (λ (n : ℕ). filled zero64 (2 * from) (2 * n) cs) e,
+        C .coeffs ∙ ap (λ (b : Bool). cond b (filled zero64 from to cs) cs) t ∙ filled-none zero64 from cs ∙ ap (λ (n : ℕ). filled zero64 from n cs) e,
       ))
       (lt-or-le from to)
 

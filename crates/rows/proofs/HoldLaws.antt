@@ -8,7 +8,6 @@ use native.Mathlib.Omega.{arith}
 use lib.ListN.{length, getD, set, take}
 use lib.Seq.{take-suc, take-add}
 use lib.Ieee.{Float, nan}
-use Rattle.terms.specs.declared.Complex64.{Complex64}
 use Rattle.terms.specs.Lists.{tab, mapTo}
 use Rattle.terms.specs.Term.{Term, noTerm}
 use Rattle.rows.specs.Rows.{keyAt, termAt, termsIn, putCoeff, putKey, Holds, Room, keysOf, coeffsOf}
@@ -44,7 +43,7 @@ module _ {s R m : ℕ} {ts : List Term} {ws₀ ws : List ℕ} {cs₀ cs : List F
     put-row n us q = record {
       terms = q;
       words-kept = drop-more (i * s + s) (R * s) (putKey s ws i (t .key)) ws (row-before s lt) (drop-putKey s ws i (t .key) within e) ∙ H .words-kept;
-      coeffs-kept = drop-putCoeff (2 * R) cs i (t .coeff) (omega arith) ∙ H .coeffs-kept;
+      coeffs-kept = drop-putCoeff R cs i (t .coeff) (omega arith) ∙ H .coeffs-kept;
       words-long = length-putKey s ws i (t .key) within e ∙ H .words-long;
       coeffs-long = length-putCoeff cs i (t .coeff) ∙ H .coeffs-long;
     }
@@ -57,7 +56,7 @@ module _ {s R m : ℕ} {ts : List Term} {ws₀ ws : List ℕ} {cs₀ cs : List F
       put-row r i lt t e m (set ts i t) (tab-set m (termAt s ws cs) _ i t h (put-same r i lt t e) (λ j l n. put-other r i lt t e j n) ∙ ap (λ (l : List Term). set l i t) (H .terms))
 
   -- another coefficient
-  pub hold-val : Room s R ws cs → m ≤ R → (i : ℕ) → i < m → (v : Complex64)
+  pub hold-val : Room s R ws cs → m ≤ R → (i : ℕ) → i < m → (v : Float)
       → Holds s R m (set ts i (record { key = keyAt s ws i; coeff = v })) ws₀ ws cs₀ (putCoeff cs i v)
   hold-val r le i h v =
       let t : Term = record { key = keyAt s ws i; coeff = v } in
@@ -74,29 +73,22 @@ module _ {s R m : ℕ} {ts : List Term} {ws₀ ws : List ℕ} {cs₀ cs : List F
 
 -- ---- the terms written back
 
-coeffsOf-snoc : (l : List Term) (t : Term) → coeffsOf (l ++ (t ∷ [])) ≡ coeffsOf l ++ (t .coeff .re ∷ t .coeff .im ∷ [])
+coeffsOf-snoc : (l : List Term) (t : Term) → coeffsOf (l ++ (t ∷ [])) ≡ coeffsOf l ++ (t .coeff ∷ [])
 unfolding coeffsOf
 coeffsOf-snoc [] t = refl
-coeffsOf-snoc (x ∷ l) t = ap (λ (r : List Float). x .coeff .re ∷ x .coeff .im ∷ r) (coeffsOf-snoc l t)
+coeffsOf-snoc (x ∷ l) t = ap (λ (r : List Float). x .coeff ∷ r) (coeffsOf-snoc l t)
 
 keysOf-snoc : (l : List Term) (t : Term) → keysOf (l ++ (t ∷ [])) ≡ keysOf l ++ t .key
 unfolding keysOf
 keysOf-snoc [] t = append-nil (t .key)
 keysOf-snoc (x ∷ l) t = ap (λ (r : List ℕ). x .key ++ r) (keysOf-snoc l t) ∙ sym (append-assoc (x .key) (keysOf l) (t .key))
 
-take-two : (cs : List Float) (n : ℕ) → n + 1 < length cs → take (suc (suc n)) cs ≡ take n cs ++ (getD cs n nan ∷ getD cs (n + 1) nan ∷ [])
-take-two cs n h =
-    take-suc cs (suc n) nan (omega arith) ∙ (λ k. take-suc cs n nan (omega arith) k ++ (getD cs (sym (add-one n) k) nan ∷ []))
-    ∙ append-assoc (take n cs) (getD cs n nan ∷ []) (getD cs (n + 1) nan ∷ [])
-
-pub coeffsOf-terms : (s n : ℕ) (ws : List ℕ) (cs : List Float) → 2 * n ≤ length cs → coeffsOf (termsIn s n ws cs) ≡ take (2 * n) cs
+pub coeffsOf-terms : (s n : ℕ) (ws : List ℕ) (cs : List Float) → n ≤ length cs → coeffsOf (termsIn s n ws cs) ≡ take n cs
 unfolding coeffsOf tab
 coeffsOf-terms s zero ws cs h = refl
 coeffsOf-terms s (suc n) ws cs h =
-    let twice : 2 * suc n ≡ suc (suc (2 * n)) = omega arith in
     ap coeffsOf (tab-snoc n (termAt s ws cs)) ∙ coeffsOf-snoc (termsIn s n ws cs) (termAt s ws cs n)
-    ∙ ap (λ (l : List Float). l ++ (getD cs (2 * n) nan ∷ getD cs (2 * n + 1) nan ∷ [])) (coeffsOf-terms s n ws cs (omega arith))
-    ∙ sym (take-two cs (2 * n) (omega arith)) ∙ ap (λ (k : ℕ). take k cs) (sym twice)
+    ∙ ap (λ (l : List Float). l ++ (getD cs n nan ∷ [])) (coeffsOf-terms s n ws cs (omega arith)) ∙ sym (take-suc cs n nan (omega arith))
 
 pub keysOf-terms : (s n : ℕ) (ws : List ℕ) (cs : List Float) → keysOf (termsIn s n ws cs) ≡ take (n * s) ws
 unfolding keysOf tab
@@ -134,7 +126,7 @@ pub hold-wide : {s R S m : ℕ} {ts : List Term} {ws₀ ws : List ℕ} {cs₀ cs
 hold-wide {s} {R} {S} {m} {ts} {ws₀} {ws} {cs₀} {cs} le H = record {
   terms = H .terms;
   words-kept = drop-more (R * s) (S * s) ws ws₀ (mul-le-mul-right s le) (H .words-kept);
-  coeffs-kept = drop-more (2 * R) (2 * S) cs cs₀ (omega arith) (H .coeffs-kept);
+  coeffs-kept = drop-more R S cs cs₀ (omega arith) (H .coeffs-kept);
   words-long = H .words-long;
   coeffs-long = H .coeffs-long;
 }
@@ -142,7 +134,7 @@ hold-wide {s} {R} {S} {m} {ts} {ws₀} {ws} {cs₀} {cs} le H = record {
 pub room-less : {s R S : ℕ} {ws : List ℕ} {cs : List Float} → R ≤ S → Room s S ws cs → Room s R ws cs
 room-less {s} {R} {S} le r = let m = mul-le-mul-right s le in record { words-room = omega (arith, r .words-room); coeffs-room = omega (arith, r .coeffs-room) }
 
-pub room-at : {s R : ℕ} {ws : List ℕ} {cs : List Float} → Room s R ws cs → (i : ℕ) → i < R → (i * s + s ≤ length ws) × (2 * i + 1 < length cs)
+pub room-at : {s R : ℕ} {ws : List ℕ} {cs : List Float} → Room s R ws cs → (i : ℕ) → i < R → (i * s + s ≤ length ws) × (i < length cs)
 room-at {s} r i h = let b = row-before s h in (omega (arith, r .words-room), omega (arith, r .coeffs-room))
 
 -- ---- a turn of a loop that changes key and coefficient of each row in turn

@@ -30,25 +30,19 @@ next-key : (s i : ℕ) (k x : List ℕ) → length k ≡ s → keyAt s (k ++ x) 
 next-key s i k x e =
     ap (λ (n : ℕ). take s (drop n (k ++ x))) (suc-mul i s ∙ add-comm (i * s) s ∙ ap (λ (n : ℕ). n + i * s) (sym e)) ∙ ap (take s) (drop-append-add k x (i * s))
 
-next-coeff : (a b : Float) (l : List Float) (i : ℕ) → coeffAt (a ∷ b ∷ l) (suc i) ≡ coeffAt l i
-next-coeff a b l i =
-    let p : 2 * suc i ≡ suc (suc (2 * i)) = omega arith in
-    let q : 2 * suc i + 1 ≡ suc (suc (2 * i + 1)) = omega arith in
-    λ k. record { re = getD (a ∷ b ∷ l) (p k) nan; im = getD (a ∷ b ∷ l) (q k) nan }
-
 pub terms-read : (s : ℕ) (ts : List Term) (x : List ℕ) (y : List Float) → All (Keyed s) ts → termsIn s (length ts) (keysOf ts ++ x) (coeffsOf ts ++ y) ≡ ts
 unfolding tab keysOf coeffsOf
 terms-read s [] x y h = refl
 terms-read s (t ∷ ts) x y h =
     let ws : List ℕ = (t .key ++ keysOf ts) ++ x in
-    let cs : List Float = t .coeff .re ∷ t .coeff .im ∷ (coeffsOf ts ++ y) in
+    let cs : List Float = t .coeff ∷ (coeffsOf ts ++ y) in
     let whole : ws ≡ t .key ++ (keysOf ts ++ x) = append-assoc (t .key) (keysOf ts) x in
     let first : keyAt s ws 0 ≡ t .key = ap (λ (l : List ℕ). keyAt s l 0) whole ∙ first-key s (t .key) (keysOf ts ++ x) (h .0) in
     let rest : tab (length ts) (λ i. termAt s ws cs (suc i)) ≡ ts =
     tab-ext (length ts) (λ i. termAt s ws cs (suc i)) (termAt s (keysOf ts ++ x) (coeffsOf ts ++ y))
     (λ i l k. record {
       key = (ap (λ (m : List ℕ). keyAt s m (suc i)) whole ∙ next-key s i (t .key) (keysOf ts ++ x) (h .0)) k;
-      coeff = next-coeff (t .coeff .re) (t .coeff .im) (coeffsOf ts ++ y) i k;
+      coeff = getD (coeffsOf ts ++ y) i nan;
     })
     ∙ terms-read s ts x y (h .1) in
     λ k. record { key = first k; coeff = t .coeff } ∷ rest k
@@ -60,10 +54,10 @@ unfolding keysOf
 length-keysOf s [] h = sym (zero-mul s)
 length-keysOf s (t ∷ ts) h = length-append (t .key) (keysOf ts) ∙ (λ k. h .0 k + length-keysOf s ts (h .1) k) ∙ add-comm s (length ts * s) ∙ sym (suc-mul (length ts) s)
 
-pub length-coeffsOf : (ts : List Term) → length (coeffsOf ts) ≡ 2 * length ts
+pub length-coeffsOf : (ts : List Term) → length (coeffsOf ts) ≡ length ts
 unfolding coeffsOf
 length-coeffsOf [] = refl
-length-coeffsOf (t ∷ ts) = let h = length-coeffsOf ts in omega arith
+length-coeffsOf (t ∷ ts) = ap suc (length-coeffsOf ts)
 
 -- a list, filled up to place b, and the rest of another list
 abbrev padded : {A : Type 0} → A → List A → List A → ℕ → List A
@@ -95,26 +89,26 @@ module _ (w need R n : ℕ) {ts : List Term} {r : ℕ} {ws ws′ : List ℕ} {cs
   free : (R - length ts) * s ≡ R * s - length (keysOf ts)
   free = sym (rows-less s (length ts) R) ∙ ap (λ (k : ℕ). R * s - k) (sym (length-keysOf s ts keyed))
 
-  free2 : 2 * (R - length ts) ≡ 2 * R - length (coeffsOf ts)
+  free2 : R - length ts ≡ R - length (coeffsOf ts)
   free2 = let h = length-coeffsOf ts in omega arith
 
   words-are : ws′ ≡ padded 0 (keysOf ts) ws (R * s)
   unfolding wordsWith
   words-are = S .words ∙ ap (λ (b : Bool). cond b (wordsWith w R ts ws) ws) room ∙ ap (λ (k : ℕ). keysOf ts ++ (replicate k 0 ++ drop (R * s) ws)) free
 
-  coeffs-are : cs′ ≡ padded zero64 (coeffsOf ts) cs (2 * R)
+  coeffs-are : cs′ ≡ padded zero64 (coeffsOf ts) cs R
   unfolding coeffsWith
-  coeffs-are = S .coeffs ∙ ap (λ (b : Bool). cond b (coeffsWith R ts cs) cs) room ∙ ap (λ (k : ℕ). coeffsOf ts ++ (replicate k zero64 ++ drop (2 * R) cs)) free2
+  coeffs-are = S .coeffs ∙ ap (λ (b : Bool). cond b (coeffsWith R ts cs) cs) room ∙ ap (λ (k : ℕ). coeffsOf ts ++ (replicate k zero64 ++ drop R cs)) free2
 
   pub step-holds : Holds s R r ts ws ws′ cs cs′
   step-holds =
       let fit = rows-room w R ws cs reach in
       let a : length (keysOf ts) ≤ R * s = rw (length-keysOf s ts keyed) (mul-le-mul-right s few) in
-      let b : length (coeffsOf ts) ≤ 2 * R = rw (length-coeffsOf ts) (omega arith) in
+      let b : length (coeffsOf ts) ≤ R = rw (length-coeffsOf ts) (omega arith) in
       record {
         terms = (λ k. termsIn s (step-count k) (words-are k) (coeffs-are k)) ∙ terms-read s ts _ _ keyed;
         words-kept = ap (drop (R * s)) words-are ∙ drop-padded 0 (keysOf ts) ws (R * s) a (fit .words-room);
-        coeffs-kept = ap (drop (2 * R)) coeffs-are ∙ drop-padded zero64 (coeffsOf ts) cs (2 * R) b (fit .coeffs-room);
+        coeffs-kept = ap (drop R) coeffs-are ∙ drop-padded zero64 (coeffsOf ts) cs R b (fit .coeffs-room);
         words-long = ap length words-are ∙ length-padded 0 (keysOf ts) ws (R * s) a (fit .words-room);
-        coeffs-long = ap length coeffs-are ∙ length-padded zero64 (coeffsOf ts) cs (2 * R) b (fit .coeffs-room);
+        coeffs-long = ap length coeffs-are ∙ length-padded zero64 (coeffsOf ts) cs R b (fit .coeffs-room);
       }

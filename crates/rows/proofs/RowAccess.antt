@@ -10,8 +10,6 @@ use lib.ListN.{length, getD, set, List·getD-eq-default}
 use lib.Seq.{set-out}
 use lib.Ieee.{Float, nan}
 use borrow.Author.Tests.{le-leb, lt-leb, lt-ltb, le-ltb}
-use Rattle.terms.specs.declared.Complex64.{Complex64}
-use Rattle.terms.specs.Coefficient.{complex}
 use Rattle.terms.proofs.CaseLaws.{lt-or-le}
 use Rattle.rows.specs.Rows.{keyAt, coeffAt, putKey, putCoeff, copiedRow}
 use Rattle.rows.proofs.RowLaws.{put-key-same}
@@ -21,13 +19,6 @@ use mathlib.Core.Logic.{⊎-elim}
 
 pub no-number : (cs : List Float) (k : ℕ) → length cs ≤ k → nan ≡ getD cs k nan
 no-number cs k h = sym (List·getD-eq-default cs nan h)
-
-pub no-value : (cs : List Float) (i : ℕ) → length cs / 2 < i → complex nan nan ≡ coeffAt cs i
-no-value cs i h = ap₂ complex (no-number cs (2 * i) (omega arith)) (no-number cs (2 * i + 1) (omega arith))
-
-pub no-store : (cs : List Float) (i : ℕ) (v : Complex64) → length cs / 2 < i → cs ≡ putCoeff cs i v
-no-store cs i v h =
-    sym (ap (λ (l : List Float). set l (2 * i + 1) (v .im)) (set-out cs (2 * i) (v .re) (omega arith)) ∙ set-out cs (2 * i + 1) (v .im) (omega arith))
 
 -- ---- rows within a buffer
 

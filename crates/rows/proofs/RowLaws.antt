@@ -10,35 +10,26 @@ use native.Mathlib.Numerals.{add-one}
 use lib.Ieee.{Float, nan}
 use Rattle.words.proofs.RowLaws.{length-part, length-withPart, drop-withPart, part-same, part-other}
 pub use Rattle.words.proofs.RowLaws.{row-before, drop-more, after}
-use Rattle.terms.specs.declared.Complex64.{Complex64}
 use Rattle.terms.proofs.CaseLaws.{lt-or-le}
 use Rattle.rows.specs.Rows.{keyAt, coeffAt, putCoeff, putKey}
 
--- ---- coefficients
+-- ---- numbers
 
-pub length-putCoeff : (cs : List Float) (i : ℕ) (v : Complex64) → length (putCoeff cs i v) ≡ length cs
-length-putCoeff cs i v = simp length-set
+pub length-putCoeff : (cs : List Float) (i : ℕ) (v : Float) → length (putCoeff cs i v) ≡ length cs
+length-putCoeff cs i v = length-set cs i v
 
-pub val-put-same : (cs : List Float) (i : ℕ) (v : Complex64) → 2 * i + 1 < length cs → coeffAt (putCoeff cs i v) i ≡ v
-val-put-same cs i v h =
-    λ k. record {
-      re = (getD-set-other (set cs (2 * i) (v .re)) (2 * i + 1) (2 * i) (v .im) nan (λ q. omega arith) ∙ getD-set-same cs (2 * i) (v .re) nan (omega arith)) k;
-      im = getD-set-same (set cs (2 * i) (v .re)) (2 * i + 1) (v .im) nan (simp length-set h) k;
-    }
+pub val-put-same : (cs : List Float) (i : ℕ) (v : Float) → i < length cs → coeffAt (putCoeff cs i v) i ≡ v
+val-put-same cs i v h = getD-set-same cs i v nan h
 
-pub val-put-other : (cs : List Float) (i j : ℕ) (v : Complex64) → (j ≡ i → ⊥) → coeffAt (putCoeff cs i v) j ≡ coeffAt cs j
-val-put-other cs i j v n =
-    λ k. record {
-      re = (getD-set-other (set cs (2 * i) (v .re)) (2 * i + 1) (2 * j) (v .im) nan (λ q. omega arith) ∙ getD-set-other cs (2 * i) (2 * j) (v .re) nan (λ q. n (omega arith))) k;
-      im = (getD-set-other (set cs (2 * i) (v .re)) (2 * i + 1) (2 * j + 1) (v .im) nan (λ q. n (omega arith)) ∙ getD-set-other cs (2 * i) (2 * j + 1) (v .re) nan (λ q. omega arith)) k;
-    }
+pub val-put-other : (cs : List Float) (i j : ℕ) (v : Float) → (j ≡ i → ⊥) → coeffAt (putCoeff cs i v) j ≡ coeffAt cs j
+val-put-other cs i j v n = getD-set-other cs i j v nan n
 
-pub drop-putCoeff : (p : ℕ) (cs : List Float) (i : ℕ) (v : Complex64) → 2 * i + 1 < p → drop p (putCoeff cs i v) ≡ drop p cs
-drop-putCoeff p cs i v h = drop-set-lt p (set cs (2 * i) (v .re)) (2 * i + 1) (v .im) h ∙ drop-set-lt p cs (2 * i) (v .re) (omega arith)
+pub drop-putCoeff : (p : ℕ) (cs : List Float) (i : ℕ) (v : Float) → i < p → drop p (putCoeff cs i v) ≡ drop p cs
+drop-putCoeff p cs i v h = drop-set-lt p cs i v h
 
--- a coefficient stored where it stands
+-- a number stored where it stands
 pub put-val-same : (cs : List Float) (i : ℕ) → putCoeff cs i (coeffAt cs i) ≡ cs
-put-val-same cs i = ap (λ (l : List Float). set l (2 * i + 1) (getD cs (2 * i + 1) nan)) (set-getD cs (2 * i) nan) ∙ set-getD cs (2 * i + 1) nan
+put-val-same cs i = set-getD cs i nan
 
 -- ---- keys
 

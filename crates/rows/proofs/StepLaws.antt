@@ -23,7 +23,7 @@ use Rattle.rows.proofs.HoldLaws.{hold-count, keysOf-terms, coeffsOf-ter
 
 pub rows-room : (w n : ℕ) (ws : List ℕ) (cs : List Float) → n ≤ rowsIn w ws cs → Room (2 * w) n ws cs
 rows-room w n ws cs h =
-    let a : n ≤ length cs / 2 = le-trans h (min-le-right _ _) in
+    let a : n ≤ length cs = le-trans h (min-le-right _ _) in
     record { words-room = rows-fit n w (length ws) (le-trans h (min-le-left _ _)); coeffs-room = omega arith }
 
 -- the test of a public step
@@ -49,11 +49,11 @@ module _ (w n : ℕ) {m : ℕ} {ts : List Term} {ws₀ ws : List ℕ} {cs₀ cs 
   words-cleared e = e
       ∙ (λ k. (sym (keysOf-terms (2 * w) m ws cs) ∙ ap keysOf (H .terms)) k ++ (replicate ((rows-less (2 * w) m n ∙ ap (λ (c : ℕ). (n - c) * (2 * w)) (sym (hold-count H))) k) 0 ++ H .words-kept k))
 
-  pub coeffs-cleared : {cs′ : List Float} → m ≤ n → 2 * n ≤ length cs₀ → cs′ ≡ filled zero64 (2 * m) (2 * n) cs → cs′ ≡ coeffsWith n ts cs₀
+  pub coeffs-cleared : {cs′ : List Float} → m ≤ n → n ≤ length cs₀ → cs′ ≡ filled zero64 m n cs → cs′ ≡ coeffsWith n ts cs₀
   unfolding filled coeffsWith
   coeffs-cleared le h e =
-      let room : 2 * m ≤ length cs = rw (H .coeffs-long) (omega arith) in
-      let free : 2 * n - 2 * m ≡ 2 * (n - length ts) = ap (λ (c : ℕ). 2 * n - 2 * c) (sym (hold-count H)) ∙ omega arith in
+      let room : m ≤ length cs = rw (H .coeffs-long) (omega arith) in
+      let free : n - m ≡ n - length ts = ap (λ (c : ℕ). n - c) (sym (hold-count H)) in
       e ∙ (λ k. (sym (coeffsOf-terms (2 * w) m ws cs room) ∙ ap coeffsOf (H .terms)) k ++ (replicate (free k) zero64 ++ H .coeffs-kept k))
 
 -- no row past them
@@ -61,8 +61,8 @@ module _ (w : ℕ) {m : ℕ} {ts : List Term} {ws₀ ws : List ℕ} {cs₀ cs : 
   pub held-words : ws ≡ wordsWith w m ts ws₀
   held-words = words-cleared w m H (filled-none 0 (m * (2 * w)) ws)
 
-  pub held-coeffs : 2 * m ≤ length cs₀ → cs ≡ coeffsWith m ts cs₀
-  held-coeffs h = coeffs-cleared w m H (le-refl m) h (filled-none zero64 (2 * m) cs)
+  pub held-coeffs : m ≤ length cs₀ → cs ≡ coeffsWith m ts cs₀
+  held-coeffs h = coeffs-cleared w m H (le-refl m) h (filled-none zero64 m cs)
 
 module _ (w need R n : ℕ) (ts : List Term) (ws : List ℕ) (cs : List Float) where
   stepped-by : {r : ℕ} {ws′ : List ℕ} {cs′ : List Float} (b : Bool) → leb need (rowsIn w ws cs) ≡ b → r ≡ cond b (length ts) n
@@ -80,14 +80,14 @@ module _ (w need R n : ℕ) (ts : List Term) (ws : List ℕ) (cs : List Float) w
 
 -- a step that reaches just its terms
 pub stepped-held : (w need n : ℕ) {m : ℕ} {ts : List Term} {ws ws′ : List ℕ} {cs cs′ : List Float} → leb need (rowsIn w ws cs) ≡ true
-    → 2 * m ≤ length cs → Holds (2 * w) m m ts ws ws′ cs cs′ → Stepped w need m n ts m ws ws′ cs cs′
+    → m ≤ length cs → Holds (2 * w) m m ts ws ws′ cs cs′ → Stepped w need m n ts m ws ws′ cs cs′
 stepped-held w need n {m} {ts} {ws} {ws′} {cs} {cs′} e h H =
     subst (λ (r : ℕ). Stepped w need m n ts r ws ws′ cs cs′) (hold-count H) (stepped w need m n ts ws cs e (held-words w H) (held-coeffs w H h))
 
 -- a loop keeps the number of rows
 pub held-rows : (w : ℕ) {s R m : ℕ} {ts : List Term} {ws₀ ws : List ℕ} {cs₀ cs : List Float} → Holds s R m ts ws₀ ws cs₀ cs
     → rowsIn w ws cs ≡ rowsIn w ws₀ cs₀
-held-rows w H = λ k. min (H .words-long k / (2 * w)) (H .coeffs-long k / 2)
+held-rows w H = λ k. min (H .words-long k / (2 * w)) (H .coeffs-long k)
 
 -- a loop that has done every row
 pub held-map : (F : Term → Term) (s R n i : ℕ) (ws₀ : List ℕ) (cs₀ : List Float) {ws : List ℕ} {cs : List Float}

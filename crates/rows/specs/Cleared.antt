@@ -16,4 +16,4 @@ filled z a b l = take a l ++ (replicate (b - a) z ++ drop b l)
 -- zero rows from `from` up to `to`, where both buffers hold them whole
 pub record Cleared (w from to : ℕ) (ws ws′ : List ℕ) (cs cs′ : List Float) : Type 0 where
   pub words : ws′ ≡ cond (ltb from to && leb to (rowsIn w ws cs)) (filled 0 (from * (2 * w)) (to * (2 * w)) ws) ws
-  pub coeffs : cs′ ≡ cond (ltb from to && leb to (rowsIn w ws cs)) (filled zero64 (2 * from) (2 * to) cs) cs
+  pub coeffs : cs′ ≡ cond (ltb from to && leb to (rowsIn w ws cs)) (filled zero64 from to cs) cs

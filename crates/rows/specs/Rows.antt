@@ -1,5 +1,5 @@
--- Terms in two lent buffers. A row has s words, its key, and two numbers, its coefficient: row i has the s words from i * s on, where s is 2 * W,
--- and the numbers 2 * i and 2 * i + 1. "There are as many rows as every lent row buffer holds whole."
+-- Terms in two lent buffers. A row has s words, its key, and one number: row i has the s words from i * s on, where s is 2 * W,
+-- and the number i. "There are as many rows as every lent row buffer holds whole."
 use mathlib.Core.Path.{_≡_}
 use Prim.Native.Nat.{ℕ, _+_, _-_, _*_, _/_, _≤_, min}
 use mathlib.Core.Bool.{cond, _&&_}
@@ -9,9 +9,7 @@ use lib.ListN.{length, take, drop, getD, set, replicate}
 use lib.Ieee.{Float, nan}
 use Rattle.numbers.specs.Constants.{zero64}
 use Rattle.words.specs.Keys.{Key}
-use Rattle.terms.specs.declared.Complex64.{Complex64}
 use Rattle.terms.specs.Lists.{tab}
-use Rattle.terms.specs.Coefficient.{complex}
 use Rattle.terms.specs.Term.{Term, term}
 use Rattle.terms.specs.Met.{inWords, metTerms}
 
@@ -20,8 +18,8 @@ use Rattle.terms.specs.Met.{inWords, metTerms}
 abbrev pub keyAt : ℕ → List ℕ → ℕ → Key
 keyAt s ws i = take s (drop (i * s) ws)
 
-abbrev pub coeffAt : List Float → ℕ → Complex64
-coeffAt cs i = complex (getD cs (2 * i) nan) (getD cs (2 * i + 1) nan)
+abbrev pub coeffAt : List Float → ℕ → Float
+coeffAt cs i = getD cs i nan
 
 abbrev pub termAt : ℕ → List ℕ → List Float → ℕ → Term
 termAt s ws cs i = term (keyAt s ws i) (coeffAt cs i)
@@ -31,7 +29,7 @@ abbrev pub termsIn : ℕ → ℕ → List ℕ → List Float → List Term
 termsIn s n ws cs = tab n (termAt s ws cs)
 
 abbrev pub rowsIn : ℕ → List ℕ → List Float → ℕ
-rowsIn w ws cs = min (length ws / (2 * w)) (length cs / 2)
+rowsIn w ws cs = min (length ws / (2 * w)) (length cs)
 
 -- ---- terms as rows
 
@@ -41,7 +39,7 @@ keysOf (t ∷ ts) = t .key ++ keysOf ts
 
 unfoldable pub coeffsOf : List Term → List Float
 coeffsOf [] = []
-coeffsOf (t ∷ ts) = t .coeff .re ∷ t .coeff .im ∷ coeffsOf ts
+coeffsOf (t ∷ ts) = t .coeff ∷ coeffsOf ts
 
 -- the terms in order, zero rows up to row R, and the rest as it was
 unfoldable pub wordsWith : ℕ → ℕ → List Term → List ℕ → List ℕ
@@ -50,7 +48,7 @@ wordsWith w R ts ws = keysOf ts ++ (replicate ((R - length ts) * (2 * w)) 0 ++ d
 
 unfoldable pub coeffsWith : ℕ → List Term → List Float → List Float
 unfolding coeffsOf
-coeffsWith R ts cs = coeffsOf ts ++ (replicate (2 * (R - length ts)) zero64 ++ drop (2 * R) cs)
+coeffsWith R ts cs = coeffsOf ts ++ (replicate (R - length ts) zero64 ++ drop R cs)
 
 -- What a step leaves that needs room for `need` rows, reaches the first R rows and makes the terms ts of n: without room nothing changes.
 pub record Stepped (w need R n : ℕ) (ts : List Term) (r : ℕ) (ws ws′ : List ℕ) (cs cs′ : List Float) : Type 0 where
@@ -70,8 +68,8 @@ metIn w qs n ws cs = cond (leb n (rowsIn w ws cs) && inWords w qs) (metTerms w q
 -- ---- words of the private contracts
 
 -- the buffers with another coefficient, or another key, in row i
-abbrev pub putCoeff : List Float → ℕ → Complex64 → List Float
-putCoeff cs i v = set (set cs (2 * i) (v .re)) (2 * i + 1) (v .im)
+abbrev pub putCoeff : List Float → ℕ → Float → List Float
+putCoeff cs i v = set cs i v
 
 abbrev pub putKey : ℕ → List ℕ → ℕ → Key → List ℕ
 putKey s ws i k = take (i * s) ws ++ (k ++ drop (i * s + s) ws)
@@ -83,12 +81,12 @@ copiedRow s ws from to = cond (leb (from * s + s) (length ws) && leb (to * s + s
 -- there is room for R rows
 pub record Room (s R : ℕ) (ws : List ℕ) (cs : List Float) : Type 0 where
   pub words-room : R * s ≤ length ws
-  pub coeffs-room : 2 * R ≤ length cs
+  pub coeffs-room : R ≤ length cs
 
 -- the buffers hold the m terms ts, and from row R on, as in length, they are as they were
 pub record Holds (s R m : ℕ) (ts : List Term) (ws₀ ws : List ℕ) (cs₀ cs : List Float) : Type 0 where
   pub terms : termsIn s m ws cs ≡ ts
   pub words-kept : drop (R * s) ws ≡ drop (R * s) ws₀
-  pub coeffs-kept : drop (2 * R) cs ≡ drop (2 * R) cs₀
+  pub coeffs-kept : drop R cs ≡ drop R cs₀
   pub words-long : length ws ≡ length ws₀
   pub coeffs-long : length cs ≡ length cs₀

@@ -40,5 +40,5 @@ pub fn clear_rows(words: &mut [u64], coeffs: &mut [f64], w: usize, from: usize, 
     }
     let size = 2 * w;
     clear_words(words, from * size, to * size);
-    clear_coeffs(coeffs, 2 * from, 2 * to);
+    clear_coeffs(coeffs, from, to);
 }

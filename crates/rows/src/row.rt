@@ -1,24 +1,23 @@
-// One row of the two lent buffers. A row has `size` words and two numbers.
+// One row of the two lent buffers. A row has `size` words and one number.
 ghost use mathlib.Core.Path.{_≡_};
 ghost use Prim.Native.Nat.{_*_, _/_, _+_, _≤_, min};
 ghost use lib.Dec.{leb};
 ghost use lib.ListN.{length, getD, set};
 ghost use lib.Ieee.{nan};
 ghost use Rattle.rows.specs.Rows.{keyAt, coeffAt, putCoeff, putKey, copiedRow};
-use terms::Complex64;
 use words::rows::rows_of;
 
 // How many rows two buffers of these lengths hold whole.
 pub fn rows_in(words: usize, coeffs: usize, w: usize) -> usize
-    ensures { λ r. ⌜ r ≡ min (words / (2 * w)) (coeffs / 2) ⌝ }
+    ensures { λ r. ⌜ r ≡ min (words / (2 * w)) coeffs ⌝ }
 {
     let n = rows_of(words, w);
-    let m = coeffs / 2;
-    if n <= m { n } else { m }
+    if n <= coeffs { n } else { coeffs }
 }
 
-fn number_at(coeffs: &[f64], k: usize) -> f64
-    ensures { λ r. ⌜ r ≡ getD (now (coeffs .entry)) k nan ⌝ }
+// The number of row k; a NaN past the end.
+pub fn value_at(coeffs: &[f64], k: usize) -> f64
+    ensures { λ r. ⌜ r ≡ coeffAt (now (coeffs .entry)) k ⌝ }
 {
     if k < coeffs.len() {
         coeffs[k]
@@ -27,36 +26,13 @@ fn number_at(coeffs: &[f64], k: usize) -> f64
     }
 }
 
-fn put_number(coeffs: &mut [f64], k: usize, x: f64)
-    ensures { λ _. ⌜ now (coeffs .exit) ≡ set (now (coeffs .entry)) k x ⌝ }
+// Another number in row k; past the end nothing changes.
+pub fn store_value(coeffs: &mut [f64], k: usize, x: f64)
+    ensures { λ _. ⌜ now (coeffs .exit) ≡ putCoeff (now (coeffs .entry)) k x ⌝ }
 {
     if k < coeffs.len() {
         coeffs[k] = x;
     }
-}
-
-// The coefficient of row i; NaNs past the end.
-pub fn value_at(coeffs: &[f64], i: usize) -> Complex64
-    ensures { λ r. ⌜ r ≡ coeffAt (now (coeffs .entry)) i ⌝ }
-{
-    if coeffs.len() / 2 < i {
-        let none = 0.0 / 0.0;
-        return Complex64 { re: none, im: none };
-    }
-    let re = number_at(coeffs, 2 * i);
-    let im = number_at(coeffs, 2 * i + 1);
-    Complex64 { re, im }
-}
-
-// Another coefficient in row i; past the end nothing changes.
-pub fn store_value(coeffs: &mut [f64], i: usize, v: Complex64)
-    ensures { λ _. ⌜ now (coeffs .exit) ≡ putCoeff (now (coeffs .entry)) i v ⌝ }
-{
-    if coeffs.len() / 2 < i {
-        return;
-    }
-    put_number(coeffs, 2 * i, v.re);
-    put_number(coeffs, 2 * i + 1, v.im);
 }
 
 // Whether row i of `size` words lies whole within `len` words.

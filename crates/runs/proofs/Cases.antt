@@ -14,7 +14,6 @@ use Rattle.words.specs.Keys.{Key, bitOf, flipOf, bitAt, flipAt, allZero, sameKe
 use Rattle.words.specs.Gates.{conjKey}
 use Rattle.words.specs.declared.Gate.the-variants.{H}
 use Rattle.terms.specs.Lists.{foldl}
-use Rattle.terms.specs.Coefficient.{complex, turnedOf, sizeOf}
 use Rattle.terms.specs.Term.{Term, term, find, isIn, addTo, conjugated, allFinite}
 use Rattle.terms.specs.Start.{countY, termOf, share}
 use Rattle.terms.specs.Rotation.{metBy, partnerBy, appendedRows, rotated}
@@ -35,7 +34,7 @@ use Rattle.runs.specs.LightCone.{coneMarks}
 
 -- opens the definitions that the cases compute
 unfoldable pub computed : Unit {0}
-unfolding cutOf neg add sub mul lt le eq ofBits sqrtOf shownOf bitOf flipOf bitAt flipAt allZero sameKey conjKey foldl turnedOf sizeOf find isIn addTo
+unfolding cutOf neg add sub mul lt le eq ofBits sqrtOf shownOf bitOf flipOf bitAt flipAt allZero sameKey conjKey foldl find isIn addTo
     conjugated allFinite countY termOf share metBy partnerBy appendedRows rotated dampAction actionOf insert scaledLocal channeled keptOf tCount onWords act
     checked settle ended finish runs markedRun member touches coneOf markCone every lettersBelow question2 question3 question4 question11 question5 question6 termsOf foldLines
     letterAmong met
@@ -79,7 +78,7 @@ ht = Native H 0 0 ∷ T 0 ∷ []
 
 -- the end of A: cos Z, and Y, which is the word XZ times i
 abbrev endA : Stage Outcome
-endA = ends (term (word 0 1) (complex cosineT zero64) ∷ term (word 1 1) (complex (neg zero64) sineT) ∷ []) (real 0x3fe6_a09e_667f_3bcd) 2 zero64 3
+endA = ends (term (word 0 1) cosineT ∷ term (word 1 1) sineT ∷ []) (real 0x3fe6_a09e_667f_3bcd) 2 zero64 3
 
 -- "Case A .. `mean=3fe6a09e667f3bcd`, `shown=707`, `t_count=1`, `peak_terms=2`, `discarded=0000000000000000`"
 pub case-a : Case Full (task 1 (usual 8) x0 ht) endA
@@ -110,7 +109,7 @@ case-c = record { passed = refl; ended = refl }
 
 -- "(D) t replaced by rz sine 1, cosine 0: peak 1, mean 0"
 pub case-d : Case Full (task 1 (usual 8) x0 (Native H 0 0 ∷ Rz 0 one64 zero64 ∷ []))
-    (ends (term (word 1 1) (complex (neg zero64) one64) ∷ []) zero64 1 zero64 2)
+    (ends (term (word 1 1) one64 ∷ []) zero64 1 zero64 2)
 unfolding computed
 case-d = record { passed = refl; ended = refl }
 
@@ -123,19 +122,19 @@ unfolding computed
 case-e = (refl, refl, refl, refl)
 
 -- "(F) no factors: mean 1"
-pub case-f : Case Full (task 1 (usual 8) (line (word 0 0) one64 ∷ []) ht) (ends (term (word 0 0) (complex one64 zero64) ∷ []) one64 1 zero64 0)
+pub case-f : Case Full (task 1 (usual 8) (line (word 0 0) one64 ∷ []) ht) (ends (term (word 0 0) one64 ∷ []) one64 1 zero64 0)
 unfolding computed
 case-f = record { passed = refl; ended = refl }
 
 -- "(G) terms Z0 weights 1 and -1, no ops: peak 1, mean 0"
 pub case-g : Case Full (task 1 (usual 8) (line (word 0 1) one64 ∷ line (word 0 1) minusOne64 ∷ []) [])
-    (ends (term (word 0 1) (complex zero64 zero64) ∷ []) zero64 1 zero64 0)
+    (ends (term (word 0 1) zero64 ∷ []) zero64 1 zero64 0)
 unfolding computed
 case-g = record { passed = refl; ended = refl }
 
 -- "(H) `path`, Z0, one damp 1.0: mean 1, peak 2"
 pub case-h : Case Path (task 1 (usual 8) (line (word 0 1) one64 ∷ []) (Damp 0 one64 ∷ []))
-    (ends (term (word 0 1) (complex zero64 zero64) ∷ term (word 0 0) (complex one64 zero64) ∷ []) one64 2 zero64 1)
+    (ends (term (word 0 1) zero64 ∷ term (word 0 0) one64 ∷ []) one64 2 zero64 1)
 unfolding computed
 case-h = record { passed = refl; ended = refl }
 
@@ -155,7 +154,7 @@ case-i-sum = refl
 abbrev j : Task
 j = task 2 (usual 8) (line (word 0 1) one64 ∷ []) (Native H 1 0 ∷ [])
 
-pub case-j : Case Cone j (ends (term (word 0 1) (complex one64 zero64) ∷ []) one64 1 zero64 0)
+pub case-j : Case Cone j (ends (term (word 0 1) one64 ∷ []) one64 1 zero64 0)
 unfolding computed
 case-j = record { passed = refl; ended = refl }
 

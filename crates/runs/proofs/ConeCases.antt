@@ -11,7 +11,6 @@ use Rattle.words.specs.Gates.{conjKey}
 use Rattle.words.specs.declared.Gate.{Gate}
 use Rattle.words.specs.declared.Gate.the-variants.{H, Cz}
 use Rattle.terms.specs.Lists.{foldl}
-use Rattle.terms.specs.Coefficient.{complex, turnedOf, sizeOf}
 use Rattle.terms.specs.Term.{term, find, conjugated, allFinite}
 use Rattle.terms.specs.Start.{countY, termOf}
 use Rattle.terms.specs.Rotation.{metBy, partnerBy, appendedRows, rotated}
@@ -87,7 +86,7 @@ pub example : Demand first second
 example = demand3 first second first-values second-values first-passes second-passes agree
 
 -- the first task's full run has mean 1 and peak 1, and so have the other three
-first-end : endAs asFull first ≡ going (outcome (term (0 ∷ 1 ∷ []) (complex one64 zero64) ∷ []) one64 [] 1 zero64 3)
-unfolding markedRun runs act met letterAmong onWords settle checked finish ended allFinite keptOf rotated appendedRows metBy partnerBy conjugated conjKey turnedOf
-    sizeOf foldl find sameKey allZero termsOf termOf countY bitAt bitOf flipAt flipOf add mul neg lt eq ofBits
+first-end : endAs asFull first ≡ going (outcome (term (0 ∷ 1 ∷ []) one64 ∷ []) one64 [] 1 zero64 3)
+unfolding markedRun runs act met letterAmong onWords settle checked finish ended allFinite keptOf rotated appendedRows metBy partnerBy conjugated conjKey
+    foldl find sameKey allZero termsOf termOf countY bitAt bitOf flipAt flipOf add mul neg lt eq ofBits
 first-end = refl

@@ -19,16 +19,14 @@ use Rattle.numbers.proofs.TestLaws.{holds}
 use Rattle.words.specs.Keys.{Key, hasLetter}
 use Rattle.words.proofs.LetterLaws.{letter, no-letter}
 use Rattle.terms.specs.Lists.{All, none}
-use Rattle.terms.specs.Coefficient.{complex, turnedOf, finiteOf}
+use Rattle.terms.specs.Coefficient.{signed, finiteOf}
 use Rattle.terms.specs.Term.{Term, term, allFinite}
 use Rattle.terms.specs.Start.{ysOf, termOf, merged}
 use Rattle.terms.specs.Truncation.{keptOf, crowded}
 use Rattle.terms.specs.Mean.{meanOf}
-use Rattle.terms.specs.Parity.{Parted}
 use Rattle.terms.proofs.CaseLaws.{and-true, and-false, eq-or-ne}
 use Rattle.terms.proofs.AllLaws.{all-at, all-imp, all-and}
 use Rattle.terms.proofs.StepLaws.{merged-keeps}
-use Rattle.terms.proofs.ParityLaws.{term-parted, merged-parted}
 use Rattle.terms.proofs.LetterSteps.{Within, Clear, ClearAt}
 use Rattle.turns.specs.declared.Limits.{Limits}
 use Rattle.turns.specs.declared.Op.{Op}
@@ -97,34 +95,28 @@ module _ (w : ℕ) (l : Limits) (s : State) (wild : allFinite (s .terms) ≡ fal
       go true (inr e) = inl (ap (λ (x : Stage State). bind x (step w l true op)) e ∙ wild-turn op)
       go false (inr e) = inr (ap (λ (x : Stage State). bind x (step w l false op)) e)
 
-  module _ (parted : All (Parted w) (s .terms)) where
-    wild-end : finish w l s ≡ refused 8
-    unfolding finish ended
-    wild-end = go (lt zero64 (l .epsilon))
-      where
-        no : (u : State) → fine u ≡ false → let m = meanOf w (u .terms) in
-            ask 8 (fine u && isFinite m) (going (outcome (u .terms) m [] (u .peak) (u .discarded) (u .touched))) ≡ refused 8
-        no u e = ap (λ (b : Bool). let m = meanOf w (u .terms) in ask 8 (b && isFinite m) (going (outcome (u .terms) m [] (u .peak) (u .discarded) (u .touched)))) e
+  wild-end : finish w l s ≡ refused 8
+  unfolding finish ended
+  wild-end = go (lt zero64 (l .epsilon))
+    where
+      no : (u : State) → fine u ≡ false → let m = meanOf w (u .terms) in
+          ask 8 (fine u && isFinite m) (going (outcome (u .terms) m [] (u .peak) (u .discarded) (u .touched))) ≡ refused 8
+      no u e = ap (λ (b : Bool). let m = meanOf w (u .terms) in ask 8 (b && isFinite m) (going (outcome (u .terms) m [] (u .peak) (u .discarded) (u .touched)))) e
 
-        go : (b : Bool) → let u = cond b (dropSmall (l .epsilon) s) s in let m = meanOf w (u .terms) in
-            ask 8 (fine u && isFinite m) (going (outcome (u .terms) m [] (u .peak) (u .discarded) (u .touched))) ≡ refused 8
-        go true = let e = l .epsilon in no (dropSmall e s) (not-fine (dropSmall e s) (kept-finite w e (s .terms) parted))
-        go false = no s (not-fine s (λ h. h))
+      go : (b : Bool) → let u = cond b (dropSmall (l .epsilon) s) s in let m = meanOf w (u .terms) in
+          ask 8 (fine u && isFinite m) (going (outcome (u .terms) m [] (u .peak) (u .discarded) (u .touched))) ≡ refused 8
+      go true = let e = l .epsilon in no (dropSmall e s) (not-fine (dropSmall e s) (kept-finite w e (s .terms)))
+      go false = no s (not-fine s (λ h. h))
 
-    pub wild-run : (ms : List Bool) (ops : List Op) → markedRun w l ms ops s ≡ refused 8
-    unfolding markedRun
-    wild-run ms ops = go (wild-runs ms ops)
-      where
-        go : (runs w l ms ops s ≡ refused 8) ⊎ (runs w l ms ops s ≡ going s) → bind (runs w l ms ops s) (finish w l) ≡ refused 8
-        go (inl e) = ap (λ (x : Stage State). bind x (finish w l)) e
-        go (inr e) = ap (λ (x : Stage State). bind x (finish w l)) e ∙ wild-end
+  pub wild-run : (ms : List Bool) (ops : List Op) → markedRun w l ms ops s ≡ refused 8
+  unfolding markedRun
+  wild-run ms ops = go (wild-runs ms ops)
+    where
+      go : (runs w l ms ops s ≡ refused 8) ⊎ (runs w l ms ops s ≡ going s) → bind (runs w l ms ops s) (finish w l) ≡ refused 8
+      go (inl e) = ap (λ (x : Stage State). bind x (finish w l)) e
+      go (inr e) = ap (λ (x : Stage State). bind x (finish w l)) e ∙ wild-end
 
 -- ---- the starts: the lines merged, and one line alone
-
-terms-parted : (w : ℕ) (ls : List Line) → All (Parted w) (termsOf w ls)
-unfolding termsOf
-terms-parted w [] = tt
-terms-parted w (l ∷ ls) = (term-parted w (l .key) (l .weight), terms-parted w ls)
 
 terms-clear : (w q : ℕ) (ls : List Line) → All (λ l. letter w (l .key) q ≡ false) ls → Clear w q (termsOf w ls)
 unfolding termsOf termOf
@@ -135,15 +127,12 @@ pub start-clear : (w q : ℕ) (ls : List Line) → All (λ l. letter w (l .key) 
 start-clear w q ls h = merged-keeps (λ (t : Term). letter w (t .key) q ≡ false) (λ k c d e f. e) (λ t e. e) (termsOf w ls) (terms-clear w q ls h)
 
 pub finite-one : (w : ℕ) (k : Key) → allFinite (termOf w k one64 ∷ []) ≡ true
-unfolding allFinite termOf turnedOf neg ofBits
-finite-one w k = let n = ysOf w k % 4 in go (eqb n 1) (eqb n 2) (eqb n 3)
+unfolding allFinite termOf neg ofBits
+finite-one w k = go (ltb 1 (ysOf w k % 4))
   where
-    go : (a b c : Bool)
-        → (finiteOf (cond a (complex (neg zero64) one64) (cond b (complex (neg one64) (neg zero64)) (cond c (complex zero64 (neg one64)) (complex one64 zero64)))) && true) ≡ true
-    go true b c = refl
-    go false true c = refl
-    go false false true = refl
-    go false false false = refl
+    go : (b : Bool) → (finiteOf (signed b one64) && true) ≡ true
+    go true = refl
+    go false = refl
 
 -- one term is never more than max_terms
 pub one-fits : (m : ℕ) (t : Term) → crowded m (t ∷ []) ≡ false
@@ -198,9 +187,7 @@ module _ (t : Task) (qs : List ℕ) (g : Spread t qs) (ms : List Bool) (k : Cove
 
       go : (b : Bool) → allFinite (s .terms) ≡ b → Like NearEnd (markedRun w (t .limits) ms (t .ops) s) (markedRun w (t .limits) cone (t .ops) s)
       go true f = cone-run w (t .limits) s qs (λ q h. start-clear w q (t .lines) (g .clear q h)) (begin-settled (t .limits) (s .terms) f (g .few) (g .uncrowded)) ms (t .ops) k
-      go false f =
-          let p = merged-parted w (termsOf w (t .lines)) (terms-parted w (t .lines)) in
-          rw (wild-run w (t .limits) s f p ms (t .ops), wild-run w (t .limits) s f p cone (t .ops)) (stops 8)
+      go false f = rw (wild-run w (t .limits) s f ms (t .ops), wild-run w (t .limits) s f cone (t .ops)) (stops 8)
 
   alone-like : (l : Line) → ((q : ℕ) → member q qs ≡ false → letter w (l .key) q ≡ false) → Like NearEnd (alone t ms l) (alone t cone l)
   unfolding termOf

@@ -1,6 +1,6 @@
 -- Demand 3, as specs/LightCone.antt states it. Assumes nothing.
 use mathlib.Core.Path.{_≡_, refl, sym, ap, subst}
-use Prim.Native.Nat.{ℕ, suc, _*_, _≤_, _<_}
+use Prim.Native.Nat.{ℕ, suc, _*_, _%_, _≤_, _<_}
 use native.Mathlib.Omega.{arith}
 use mathlib.Core.Bool.{Bool, true, false, _&&_, cond, false≢true}
 use mathlib.Core.List.{List, [], _∷_, map}
@@ -19,7 +19,7 @@ use Rattle.terms.specs.Start.{ysOf, termOf}
 use Rattle.terms.proofs.CaseLaws.{and-true, and-false}
 use Rattle.terms.proofs.NearLaws as L
 use Rattle.terms.specs.Lists.{Each, none, more}
-use Rattle.terms.proofs.NearLaws.{near-turned, at-key}
+use Rattle.terms.proofs.NearLaws.{near-signed, at-key}
 use Rattle.terms.proofs.LetterSteps.{Within}
 use Rattle.turns.specs.declared.Limits.{Limits}
 use Rattle.turns.specs.declared.Op.{Op}
@@ -59,7 +59,7 @@ all-chosen P (false ∷ ms) (op ∷ ops) h = all-chosen P ms ops (h .1)
 -- ---- a line of weight 1, its term and its start
 near-line : (w : ℕ) (a : Line) → a .weight ≈ one64 → L.NearTerm (termOf w (a .key) (a .weight)) (termOf w (a .key) one64)
 unfolding termOf
-near-line w a e = at-key (a .key) (near-turned (ysOf w (a .key)) (record { re = e; im = same }))
+near-line w a e = at-key (a .key) (near-signed (ltb 1 (ysOf w (a .key) % 4)) e)
 
 -- ---- what the questions before a run say of a task
 abbrev start : Task → State

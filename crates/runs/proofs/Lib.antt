@@ -13,4 +13,3 @@ pub mod MarkRuns
 pub mod SumLaws
 pub mod AllRunLaws
 pub mod ConeCode
-pub mod PartedTasks

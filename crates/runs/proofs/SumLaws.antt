@@ -76,9 +76,9 @@ zeros-again : (w R : ℕ) (ws ws′ : List ℕ) → drop (R * (2 * w)) ws′ ≡
 unfolding wordsWith
 zeros-again w R ws ws′ e = ap (λ (l : List ℕ). keysOf [] ++ (replicate ((R - 0) * (2 * w)) 0 ++ l)) e
 
-zeros-coeffs : (R : ℕ) (cs cs′ : List Float) → drop (2 * R) cs′ ≡ drop (2 * R) cs → coeffsWith R [] cs′ ≡ coeffsWith R [] cs
+zeros-coeffs : (R : ℕ) (cs cs′ : List Float) → drop R cs′ ≡ drop R cs → coeffsWith R [] cs′ ≡ coeffsWith R [] cs
 unfolding coeffsWith
-zeros-coeffs R cs cs′ e = ap (λ (l : List Float). coeffsOf [] ++ (replicate (2 * (R - 0)) zero64 ++ l)) e
+zeros-coeffs R cs cs′ e = ap (λ (l : List Float). coeffsOf [] ++ (replicate (R - 0) zero64 ++ l)) e
 
 -- ---- the run of a sum
 

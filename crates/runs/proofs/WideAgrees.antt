@@ -52,7 +52,7 @@ lines-clear w q (l ∷ ls) h =
 
 -- ---- what the questions before a run say of a task
 
-terms-long : (w : ℕ) (ls : List Line) → length (termsOf w ls) ≡ length ls
+pub terms-long : (w : ℕ) (ls : List Line) → length (termsOf w ls) ≡ length ls
 unfolding termsOf
 terms-long w [] = refl
 terms-long w (l ∷ ls) = ap suc (terms-long w ls)

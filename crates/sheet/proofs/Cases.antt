@@ -10,7 +10,6 @@ use Rattle.numbers.specs.Shown.{ruled, shownOf}
 use Rattle.words.specs.Keys.{bitOf, flipOf, bitAt, flipAt, allZero, sameKey}
 use Rattle.words.specs.Gates.{conjKey}
 use Rattle.terms.specs.Lists.{foldl}
-use Rattle.terms.specs.Coefficient.{turnedOf, sizeOf}
 use Rattle.terms.specs.Term.{find, isIn, addTo, conjugated, allFinite}
 use Rattle.terms.specs.Start.{countY, termOf, share}
 use Rattle.terms.specs.Rotation.{metBy, partnerBy, appendedRows, rotated}
@@ -34,7 +33,7 @@ use Rattle.sheet.specs.Answer.{printedOf}
 
 -- opens the definitions that the cases compute
 unfoldable pub computed : Unit {0}
-unfolding neg add sub mul div lt le eq ofBits toBits sqrtOf cutOf ruled shownOf bitOf flipOf bitAt flipAt allZero sameKey conjKey foldl turnedOf sizeOf find isIn
+unfolding neg add sub mul div lt le eq ofBits toBits sqrtOf cutOf ruled shownOf bitOf flipOf bitAt flipAt allZero sameKey conjKey foldl find isIn
     addTo conjugated allFinite countY termOf share metBy partnerBy appendedRows rotated dampAction actionOf insert scaledLocal channeled keptOf tCount
     onWords act met letterAmong checked settle ended finish runs markedRun member touches coneOf markCone every lettersBelow termsOf foldLines allRuns onFirst parts
     index begins steps nextDigit decimal hexDigit nextHex hex16 decimalText hexText runField isFactor areFactors factorTexts isTerm factorOf lineOn

@@ -12,4 +12,3 @@ pub mod VerdictLaws
 pub mod AnswerLaws
 pub mod ScreenLaws
 pub mod LengthLaws
-pub mod PartedSheets

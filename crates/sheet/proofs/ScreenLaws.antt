@@ -35,8 +35,8 @@ use Rattle.sheet.proofs.OutcomeLaws.{HasMeans, outcome-means}
 
 -- ---- 512 rows
 
--- 4,096 words and 1,024 numbers are 512 rows, or more, of a key of up to four words x and four words z
-rows-by-width : (w : ℕ) → 1 ≤ w → w ≤ 4 → min (4096 / (2 * w)) (1024 / 2) ≡ 512
+-- 4,096 words and 512 numbers are 512 rows, or more, of a key of up to four words x and four words z
+rows-by-width : (w : ℕ) → 1 ≤ w → w ≤ 4 → min (4096 / (2 * w)) 512 ≡ 512
 rows-by-width zero a b = absurd (omega arith)
 rows-by-width (suc zero) a b = refl
 rows-by-width (suc (suc zero)) a b = refl
@@ -44,13 +44,13 @@ rows-by-width (suc (suc (suc zero))) a b = refl
 rows-by-width (suc (suc (suc (suc zero)))) a b = refl
 rows-by-width (suc (suc (suc (suc (suc w))))) a b = absurd (omega arith)
 
-rows-are : (q : ℕ) (ws : List ℕ) (cs : List Float) → 1 ≤ q → q ≤ 256 → length ws ≡ 4096 → length cs ≡ 1024 → rowsIn (widthOf q) ws cs ≡ 512
+rows-are : (q : ℕ) (ws : List ℕ) (cs : List Float) → 1 ≤ q → q ≤ 256 → length ws ≡ 4096 → length cs ≡ 512 → rowsIn (widthOf q) ws cs ≡ 512
 rows-are q ws cs a b ew ec =
-    ap (λ (n : ℕ). min (n / (2 * widthOf q)) (length cs / 2)) ew ∙ ap (λ (n : ℕ). min (4096 / (2 * widthOf q)) (n / 2)) ec
+    ap (λ (n : ℕ). min (n / (2 * widthOf q)) (length cs)) ew ∙ ap (min (4096 / (2 * widthOf q))) ec
     ∙ rows-by-width (widthOf q) (omega arith) (omega arith)
 
 -- The verdict asks for the number of rows only of a sheet of 1 to 256 qubits: any other is refused before.
-verdict-rows : (h : Head) (ls : List (List ℕ)) (ws : List ℕ) (cs : List Float) (places : ℕ) → length ws ≡ 4096 → length cs ≡ 1024
+verdict-rows : (h : Head) (ls : List (List ℕ)) (ws : List ℕ) (cs : List Float) (places : ℕ) → length ws ≡ 4096 → length cs ≡ 512
     → verdict h ls (rowsIn (widthOf (h .qubits)) ws cs) places ≡ verdict h ls 512 places
 verdict-rows h ls ws cs places ew ec = go (earlyVerdict h ls) refl
   where
@@ -106,7 +106,7 @@ answer-text {ws} {ws′} {cs} {cs′} {ms} {ms′} {ix} {ix′} s r a =
     ∙ verdict-printed h ls (verdict h ls (rowsIn (widthOf (h .qubits)) ws cs) (length ms)) ws ws′ cs cs′ ms ms′ ix ix′ (a .memory)
 
 -- in the buffers of `bench`
-pub answer-printed : {ws ws′ : List ℕ} {cs cs′ ms ms′ : List Float} {ix ix′ : List ℕ} (s : List ℕ) (r : Reply) → length ws ≡ 4096 → length cs ≡ 1024 → length ms ≡ 256
+pub answer-printed : {ws ws′ : List ℕ} {cs cs′ ms ms′ : List Float} {ix ix′ : List ℕ} (s : List ℕ) (r : Reply) → length ws ≡ 4096 → length cs ≡ 512 → length ms ≡ 256
     → Answered s r ws ws′ cs cs′ ms ms′ ix ix′ → printed r ms′ ≡ printedOf s 512 256
 unfolding printedOf
 answer-printed {ws} {ws′} {cs} {cs′} {ms} {ms′} {ix} {ix′} s r ew ec em a =

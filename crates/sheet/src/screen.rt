@@ -21,7 +21,7 @@ fn sheet_text(s: &[u8], out: &mut [u8]) -> usize
     ensures { λ r. ⌜ Printing (printedOf (now (s .entry)) 512 256) r (now (out .entry)) (now (out .exit)) ⌝ }
 {
     let mut words = [0u64; 4096];
-    let mut coeffs = [0.0f64; 1024];
+    let mut coeffs = [0.0f64; 512];
     let mut index = [0u32; 1537];
     let mut means = [0.0f64; 256];
     let reply = answer(s, &mut words, &mut coeffs, &mut index, &mut means);

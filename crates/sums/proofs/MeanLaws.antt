@@ -12,7 +12,6 @@ use lib.Ieee.{Float, nan, binary64, add}
 use borrow.Author.Tests.{eq-eqb, ne-eqb}
 use Rattle.numbers.specs.Tests.{isFinite}
 use Rattle.words.specs.Keys.{allZero, noX}
-use Rattle.terms.specs.declared.Complex64.{Complex64}
 use Rattle.terms.specs.Mean.{addMean}
 use Rattle.terms.specs.Coefficient.{finiteOf}
 use Rattle.terms.specs.Lists.{tab}
@@ -49,13 +48,13 @@ module _ (w i : ℕ) (ws : List ℕ) (cs : List Float) (sum : Float) {b : Bool} 
   no-x : noX w (keyAt (2 * w) ws i) ≡ b
   no-x = ap allZero (take-take w (2 * w) (drop (i * (2 * w)) ws) (omega arith)) ∙ sym e
 
-  pub mean-added : {v : Complex64} → b ≡ true → v ≡ coeffAt cs i → add binary64 sum (v .re) ≡ addMean w sum (termAt (2 * w) ws cs i)
+  pub mean-added : {v : Float} → b ≡ true → v ≡ coeffAt cs i → add binary64 sum v ≡ addMean w sum (termAt (2 * w) ws cs i)
   mean-added t q =
-      ap (λ (v : Complex64). add binary64 sum (v .re)) q
-      ∙ ap (λ (b : Bool). cond b (add binary64 sum (coeffAt cs i .re)) sum) (sym (no-x ∙ t))
+      ap (λ (v : Float). add binary64 sum v) q
+      ∙ ap (λ (b : Bool). cond b (add binary64 sum (coeffAt cs i)) sum) (sym (no-x ∙ t))
 
   pub mean-passed : b ≡ false → sum ≡ addMean w sum (termAt (2 * w) ws cs i)
-  mean-passed t = ap (λ (b : Bool). cond b (add binary64 sum (coeffAt cs i .re)) sum) (sym (no-x ∙ t))
+  mean-passed t = ap (λ (b : Bool). cond b (add binary64 sum (coeffAt cs i)) sum) (sym (no-x ∙ t))
 
 -- ---- finite coefficients
 
@@ -71,28 +70,21 @@ tab-finite (suc n) f =
     ap (λ (b : Bool). finiteOf (f zero .coeff) && b) (tab-finite n (λ i. f (suc i)))
     ∙ sym (and-assoc (finiteOf (f zero .coeff)) (allFinite (tab n (λ i. f (suc i)))) (finiteOf (f (suc n) .coeff)))
 
--- n rows are 2 * n numbers
-pub finite-numbers : (n : ℕ) (cs : List Float) → finiteRows n cs ≡ numbersFinite (2 * n) cs
+-- n rows are n numbers
+pub finite-numbers : (n : ℕ) (cs : List Float) → finiteRows n cs ≡ numbersFinite n cs
 unfolding numbersFinite allFinite tab
 finite-numbers zero cs = refl
-finite-numbers (suc n) cs =
-    let two : suc (suc (2 * n)) ≡ 2 * suc n = omega arith in
-    let past : 2 * n + 1 ≡ suc (2 * n) = omega arith in
-    tab-finite n (termAt 0 [] cs)
-    ∙ ap (λ (b : Bool). b && finiteOf (coeffAt cs n)) (finite-numbers n cs)
-    ∙ ap (λ (k : ℕ). numbersFinite (2 * n) cs && (isFinite (getD cs (2 * n) nan) && isFinite (getD cs k nan))) past
-    ∙ sym (and-assoc (numbersFinite (2 * n) cs) (isFinite (getD cs (2 * n) nan)) (isFinite (getD cs (suc (2 * n)) nan)))
-    ∙ ap (λ (m : ℕ). numbersFinite m cs) two
+finite-numbers (suc n) cs = tab-finite n (termAt 0 [] cs) ∙ ap (λ (b : Bool). b && finiteOf (coeffAt cs n)) (finite-numbers n cs)
 
 pub one-more-finite : (m : ℕ) (cs : List Float) → numbersFinite (m + 1) cs ≡ numbersFinite m cs && isFinite (getD cs m nan)
 unfolding numbersFinite
 one-more-finite m cs = ap (λ (k : ℕ). numbersFinite k cs) (add-one m)
 
 -- a row that is not there
-pub missing-finite : (n : ℕ) (cs : List Float) → length cs / 2 < n → finiteRows n cs ≡ false
+pub missing-finite : (n : ℕ) (cs : List Float) → length cs < n → finiteRows n cs ≡ false
 missing-finite n cs h =
-    let m : ℕ = 2 * n - 1 in
-    let more : 2 * n ≡ m + 1 = omega arith in
+    let m : ℕ = n - 1 in
+    let more : n ≡ m + 1 = omega arith in
     let past : length cs ≤ m = omega arith in
     finite-numbers n cs ∙ ap (λ (k : ℕ). numbersFinite k cs) more ∙ one-more-finite m cs
     ∙ ap (λ (x : Float). numbersFinite m cs && isFinite x) (List·getD-eq-default cs nan past) ∙ and-false (numbersFinite m cs)

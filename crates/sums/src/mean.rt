@@ -35,7 +35,7 @@ fn add_mean(words: &[u64], coeffs: &[f64], w: usize, i: usize, sum: f64) -> f64
     let size = 2 * w;
     if all_zero(words, i * size, w) {
         let v = row::value_at(coeffs, i);
-        sum + v.re
+        sum + v
     } else {
         sum
     }
@@ -76,13 +76,12 @@ fn both(p: bool, q: bool) -> bool
 pub fn all_finite(coeffs: &[f64], n: usize) -> bool
     ensures { λ r. ⌜ r ≡ finiteRows n (now (coeffs .entry)) ⌝ }
 {
-    if coeffs.len() / 2 < n {
+    if coeffs.len() < n {
         return false;
     }
-    let end = 2 * n;
     let mut finite = true;
     let mut i = 0;
-    while i < end {
+    while i < n {
         finite = both(finite, is_finite(coeffs[i]));
         i += 1;
     }

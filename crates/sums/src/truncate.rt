@@ -6,12 +6,13 @@ ghost use Rattle.terms.specs.Truncation.{keptOf, droppedOf};
 ghost use Rattle.rows.specs.Rows.{keyAt, coeffAt, termsIn, putKey, putCoeff, Room, Holds};
 ghost use Rattle.sums.specs.Steps.{KeptRow, Truncated};
 use crate::Kept;
+use numbers::tests::absolute;
 use rows::clear::clear_rows;
 use rows::row;
 
 // Row i, moved to row k, which is i or before it.
 fn move_row(words: &mut [u64], coeffs: &mut [f64], size: usize, i: usize, k: usize)
-    requires { ⌜ (k ≤ i) × (i * size + size ≤ length (now words)) × (2 * i + 1 < length (now coeffs)) ⌝ }
+    requires { ⌜ (k ≤ i) × (i * size + size ≤ length (now words)) × (i < length (now coeffs)) ⌝ }
     ensures { λ _. ⌜ (now (words .exit) ≡ putKey size (now (words .entry)) k (keyAt size (now (words .entry)) i))
         × (now (coeffs .exit) ≡ putCoeff (now (coeffs .entry)) k (coeffAt (now (coeffs .entry)) i)) ⌝ }
 {
@@ -31,12 +32,12 @@ fn keep_row(
     kept: Kept,
     epsilon: f64,
 ) -> Kept
-    requires { ⌜ (kept .count ≤ i) × ((i * size + size ≤ length (now words)) × (2 * i + 1 < length (now coeffs))) ⌝ }
+    requires { ⌜ (kept .count ≤ i) × ((i * size + size ≤ length (now words)) × (i < length (now coeffs))) ⌝ }
     ensures { λ r. ⌜ KeptRow size i epsilon kept r (now (words .entry)) (now (words .exit)) (now (coeffs .entry)) (now (coeffs .exit)) ⌝ }
 {
     let k = kept.count;
     let v = row::value_at(coeffs, i);
-    let magnitude = v.size();
+    let magnitude = absolute(v);
     if magnitude < epsilon {
         return Kept {
             count: k,

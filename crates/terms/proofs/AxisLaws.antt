@@ -11,7 +11,7 @@ use lib.Dec.{ltb, eqb}
 use lib.ListN.{length, getD, set}
 use lib.Seq.{set-set, set-out, set-comm, getD-set-same}
 use lib.Ieee.{Float}
-use borrow.Author.Tests.{ltb-true, eqb-true, eqb-false, not-true}
+use borrow.Author.Tests.{ltb-true, eqb-true}
 use Rattle.words.specs.Keys.{Key, _⊕_, bitOf, flipOf, bitAt, flipAt, zAt, Words}
 use Rattle.words.proofs.WordLaws.{bit-flip-other}
 use Rattle.words.proofs.KeyLaws.{flipAt-length, flipAt-other-word, flipAt-twice, flipAt-words, bitAt-flip-same, bitAt-flip-other}
@@ -21,9 +21,9 @@ use Rattle.terms.specs.Lists.{All}
 use Rattle.terms.specs.Term.{Term, OnWidth, Distinct}
 use Rattle.terms.specs.Rotation.{metBy, partnerBy, onKey, rotated}
 use Rattle.terms.specs.Branch.{branched}
-use Rattle.terms.proofs.CaseLaws.{and-true}
 use Rattle.terms.proofs.AllLaws.{all-imp, all-every}
 use Rattle.terms.proofs.DistinctLaws.{width-key}
+use Rattle.terms.proofs.YLaws.{on-both, partner-odd}
 use Rattle.terms.proofs.BranchLaws.{Paired, branched-rotated, rotated-distinct, rotated-all}
 
 -- ---- two flips commute
@@ -117,17 +117,11 @@ module _ (w : ℕ) where
   x-kept : (k : Key) (q r : ℕ) → q < 64 * w → bitAt (flipAt k (zAt w r)) q ≡ bitAt k q
   x-kept k q r h = bitAt-flip-other k (zAt w r) q (λ e. omega arith)
 
-  pub on-both : (a b : ℕ) → onKey w (Zz a b) ≡ true → (a < 64 * w) × ((b < 64 * w) × (a ≢ b))
-  on-both a b on =
-      let p = and-true (ltb a (64 * w)) _ on in
-      let q = and-true (ltb b (64 * w)) _ (p .1) in
-      (ltb-true a (64 * w) (p .0), (ltb-true b (64 * w) (q .0), eqb-false a b (not-true (eqb a b) (q .1))))
-
   pub partner-met : (axis : Axis) (k : Key) → onKey w axis ≡ true → metBy axis (partnerBy w axis k) ≡ metBy axis k
   unfolding partnerBy metBy
   partner-met (Z q) k on = x-kept k q q (ltb-true q (64 * w) on)
   partner-met (Zz a b) k on =
-      let h = on-both a b on in
+      let h = on-both w a b on in
       let l = flipAt k (zAt w a) in
       ap₂ _⊕_ (x-kept l a b (h .0) ∙ x-kept k a a (h .0)) (x-kept l b b (h .1 .0) ∙ x-kept k b a (h .1 .0))
 
@@ -143,7 +137,7 @@ module _ (w : ℕ) where
   unfolding partnerBy
   partner-moves (Z q) k on long e = z-moves k q (ltb-true q (64 * w) on) long (ap (λ (l : Key). bitAt l (zAt w q)) e)
   partner-moves (Zz a b) k on long e =
-      let h = on-both a b on in
+      let h = on-both w a b on in
       z-moves (flipAt k (zAt w a)) b (h .1 .0) (flipAt-length k (zAt w a) ∙ long)
       (ap (λ (l : Key). bitAt l (zAt w b)) e ∙ sym (bitAt-flip-other k (zAt w a) (zAt w b) (λ e. h .1 .1 (omega arith))))
 
@@ -151,18 +145,19 @@ module _ (w : ℕ) where
 
 module _ (w : ℕ) (axis : Axis) (sin cos : Float) (ts : List Term) where
   pub axis-branched : onKey w axis ≡ true → All (OnWidth w) ts → Distinct ts
-      → branched (metBy axis) (partnerBy w axis) sin cos ts ≡ rotated (metBy axis) (partnerBy w axis) sin cos ts
+      → branched w (metBy axis) (partnerBy w axis) sin cos ts ≡ rotated w (metBy axis) (partnerBy w axis) sin cos ts
   axis-branched on x D =
-      branched-rotated (metBy axis) (partnerBy w axis) sin cos ts
-      (all-imp (OnWidth w) (λ t. Paired (metBy axis) (partnerBy w axis) (t .key)) ts
+      branched-rotated w (metBy axis) (partnerBy w axis) sin cos ts
+      (all-imp (OnWidth w) (λ t. Paired w (metBy axis) (partnerBy w axis) (t .key)) ts
       (λ t h. record {
         back = partner-back w axis (t .key);
         moves = partner-moves w axis (t .key) on (h .long);
         keeps = partner-met w axis (t .key) on;
+        other = partner-odd w axis on (t .key) (h .long);
       }) x) D
 
-  pub axis-distinct : Distinct ts → Distinct (rotated (metBy axis) (partnerBy w axis) sin cos ts)
-  axis-distinct D = rotated-distinct (metBy axis) (partnerBy w axis) sin cos ts (all-every _ ts (λ t. partner-back w axis (t .key))) D
+  pub axis-distinct : Distinct ts → Distinct (rotated w (metBy axis) (partnerBy w axis) sin cos ts)
+  axis-distinct D = rotated-distinct w (metBy axis) (partnerBy w axis) sin cos ts (all-every _ ts (λ t. partner-back w axis (t .key))) D
 
-  pub axis-width : All (OnWidth w) ts → All (OnWidth w) (rotated (metBy axis) (partnerBy w axis) sin cos ts)
-  axis-width x = rotated-all (metBy axis) (partnerBy w axis) sin cos (OnWidth w) ts (width-key w) (partner-width w axis) x
+  pub axis-width : All (OnWidth w) ts → All (OnWidth w) (rotated w (metBy axis) (partnerBy w axis) sin cos ts)
+  axis-width x = rotated-all w (metBy axis) (partnerBy w axis) sin cos (OnWidth w) ts (width-key w) (partner-width w axis) x

@@ -1,7 +1,7 @@
 -- Where the words are distinct, the rotation done in place, row after row, is the rotation from the old values, and keeps them distinct. Assumes nothing.
 use mathlib.Core.Path.{_≡_, refl, sym, ap, _∙_}
 use mathlib.Core.Logic.{_⊎_, inl, inr, ⊎-elim}
-use mathlib.Core.Bool.{Bool, true, false, cond, true≢false}
+use mathlib.Core.Bool.{Bool, true, false, not, cond, true≢false}
 use mathlib.Core.List.{List, [], _∷_, _++_, map, append-assoc, append-nil}
 use mathlib.Core.Option.{Option, none, some}
 use Prim.Native.Nat.{ℕ, zero, suc, min, _≤_, _<_}
@@ -15,12 +15,11 @@ use borrow.Author.Tests.{lt-ltb, le-ltb, eq-eqb, ne-eqb}
 use Rattle.numbers.specs.Tests.{isZero}
 use Rattle.words.specs.Keys.{Key, sameKey}
 use Rattle.words.proofs.KeyLaws.{sameKey-sym, sameKey-eq}
-use Rattle.terms.specs.declared.Complex64.{Complex64}
 use Rattle.terms.specs.declared.Found.{Found}
 use Rattle.terms.specs.declared.Found.the-variants.{At, Nothing}
 use Rattle.terms.specs.Coefficient.{scaledOf}
 use Rattle.terms.specs.Lists.{tab, All}
-use Rattle.terms.specs.Term.{Term, term, noTerm, Distinct, find}
+use Rattle.terms.specs.Term.{oddY, Term, term, noTerm, Distinct, find}
 use Rattle.terms.specs.Rotation.{scaledMet, flippedTerm, mixed, turnedTerm, appendedTerm, turnedRow, appendedRows, rotated}
 use Rattle.terms.specs.Branch.{first, rowOf, branchPair, branchLone, branchBy, branchRow, branchTo, branched}
 use Rattle.terms.proofs.CaseLaws.{cond-holds, same-test, lt-or-le, eq-or-ne, bool-cases}
@@ -32,7 +31,7 @@ use Rattle.terms.proofs.DistinctLaws.{Other, other-key, Apart, apart-of
 
 -- ---- the first row that has a word, and its coefficient
 
-abbrev pub coeffOf : List Term → Found → Option Complex64
+abbrev pub coeffOf : List Term → Found → Option Float
 coeffOf ts (At j) = some (getD ts j noTerm .coeff)
 coeffOf ts Nothing = none
 
@@ -90,46 +89,48 @@ tab-set2 n f g i p a b hi hp ne gi gp o =
     tab-set n h g p b hp gp (λ j l q. ⊎-elim (λ (e : j ≡ i). rw (eq-eqb j i e, e) gi) (λ (d : j ≡ i → ⊥). rw (ne-eqb j i d) (o j l d q)) (eq-or-ne j i))
     ∙ ap (λ (l : List _). set l p b) one
 
--- a word whose partner is another word, with the same answer to whether it is met, and with this word for its partner
-pub record Paired (met : Key → Bool) (partner : Key → Key) (k : Key) : Type 0 where
+-- a word whose partner is another word, with the same answer to whether it is met, with this word for its partner and, where it is met, with the
+-- other parity of Y letters
+pub record Paired (w : ℕ) (met : Key → Bool) (partner : Key → Key) (k : Key) : Type 0 where
   pub back : partner (partner k) ≡ k
   pub moves : partner k ≡ k → ⊥
   pub keeps : met (partner k) ≡ met k
+  pub other : met k ≡ true → oddY w (partner k) ≡ not (oddY w k)
 
 -- ---- the words after the rotation from the old values
 
-module _ (met : Key → Bool) (partner : Key → Key) (sin cos : Float) where
+module _ (w : ℕ) (met : Key → Bool) (partner : Key → Key) (sin cos : Float) where
   -- a row keeps its word, or has its partner's where no term had it and the cosine is 0
   abbrev pub TurnedKey : List Term → Term → Term → Type 0
   TurnedKey old t u = (u .key ≡ t .key) ⊎ ((isZero cos ≡ true) × ((find (partner (t .key)) old ≡ none) × (u .key ≡ partner (t .key))))
 
-  pub turned-key : (old : List Term) (t : Term) → TurnedKey old t (turnedRow met partner sin cos old t)
-  turned-key old t = row-cases met partner sin cos old t (λ u l. TurnedKey old t u) (λ m. inl refl) (λ d m e. inl refl) (λ m e z. inr (z, (e, refl))) (λ m e z. inl refl)
+  pub turned-key : (old : List Term) (t : Term) → TurnedKey old t (turnedRow w met partner sin cos old t)
+  turned-key old t = row-cases w met partner sin cos old t (λ u l. TurnedKey old t u) (λ m. inl refl) (λ d m e. inl refl) (λ m e z. inr (z, (e, refl))) (λ m e z. inl refl)
 
   -- what a row appends: nothing, or its partner's word where no term had it and the cosine is not 0
   pub appended-cases : (p : List Term → Type 0) (old : List Term) (t : Term) → p []
-      → (isZero cos ≡ false → find (partner (t .key)) old ≡ none → p (flippedTerm met partner sin cos t ∷ []))
-      → p (appendedOf met partner sin cos old t)
-  appended-cases p old t x y = row-cases met partner sin cos old t (λ u l. p l) (λ m. x) (λ d m e. x) (λ m e z. x) (λ m e z. y z e)
+      → (isZero cos ≡ false → find (partner (t .key)) old ≡ none → p (flippedTerm w met partner sin cos t ∷ []))
+      → p (appendedOf w met partner sin cos old t)
+  appended-cases p old t x y = row-cases w met partner sin cos old t (λ u l. p l) (λ m. x) (λ d m e. x) (λ m e z. x) (λ m e z. y z e)
 
   pub appended-all : (p : Term → Type 0) (old ts : List Term)
-      → All (λ t. isZero cos ≡ false → find (partner (t .key)) old ≡ none → p (flippedTerm met partner sin cos t)) ts
-      → All p (appendedRows met partner sin cos old ts)
+      → All (λ t. isZero cos ≡ false → find (partner (t .key)) old ≡ none → p (flippedTerm w met partner sin cos t)) ts
+      → All p (appendedRows w met partner sin cos old ts)
   unfolding appendedRows
   appended-all p old [] x = tt
   appended-all p old (t ∷ ts) x =
       let more = appended-all p old ts (x .1) in
-      appended-cases (λ l. All p (l ++ appendedRows met partner sin cos old ts)) old t more (λ z e. (x .0 z e, more))
+      appended-cases (λ l. All p (l ++ appendedRows w met partner sin cos old ts)) old t more (λ z e. (x .0 z e, more))
 
   abbrev Back : Term → Type 0
   Back t = partner (partner (t .key)) ≡ t .key
 
-  appended-apart : (old ts : List Term) → All Back ts → Apart ts → Apart (appendedRows met partner sin cos old ts)
+  appended-apart : (old ts : List Term) → All Back ts → Apart ts → Apart (appendedRows w met partner sin cos old ts)
   unfolding appendedRows
   appended-apart old [] x a = tt
   appended-apart old (t ∷ ts) x a =
       let more = appended-apart old ts (x .1) (a .1) in
-      appended-cases (λ l. Apart (l ++ appendedRows met partner sin cos old ts)) old t more
+      appended-cases (λ l. Apart (l ++ appendedRows w met partner sin cos old ts)) old t more
       (λ z e. (
         appended-all (Other (partner (t .key))) old ts
             (all-imp _ _ ts (λ u y z e q. y .1 (sym (x .0) ∙ ap partner q ∙ y .0)) (all-and Back (Other (t .key)) ts (x .1) (a .0))),
@@ -137,48 +138,48 @@ module _ (met : Key → Bool) (partner : Key → Key) (sin cos : Float) where
       ))
 
   turned-apart : (old : List Term) (t u : Term) → Back t × Held old t → Back u × Held old u
-      → turnedRow met partner sin cos old t .key ≡ turnedRow met partner sin cos old u .key → t .key ≡ u .key
+      → turnedRow w met partner sin cos old t .key ≡ turnedRow w met partner sin cos old u .key → t .key ≡ u .key
   turned-apart old t u x y e = go (turned-key old t) (turned-key old u)
     where
-      go : TurnedKey old t (turnedRow met partner sin cos old t) → TurnedKey old u (turnedRow met partner sin cos old u) → t .key ≡ u .key
+      go : TurnedKey old t (turnedRow w met partner sin cos old t) → TurnedKey old u (turnedRow w met partner sin cos old u) → t .key ≡ u .key
       go (inl p) (inl q) = sym p ∙ e ∙ q
       go (inl p) (inr q) = absurd (x .1 (partner (u .key)) (q .1 .0) (sym (q .1 .1) ∙ sym e ∙ p))
       go (inr p) (inl q) = absurd (y .1 (partner (t .key)) (p .1 .0) (sym (p .1 .1) ∙ e ∙ q))
       go (inr p) (inr q) = sym (x .0) ∙ ap partner (sym (p .1 .1) ∙ e ∙ q .1 .1) ∙ y .0
 
-  pub rotated-distinct : (ts : List Term) → All (λ t. partner (partner (t .key)) ≡ t .key) ts → Distinct ts → Distinct (rotated met partner sin cos ts)
+  pub rotated-distinct : (ts : List Term) → All (λ t. partner (partner (t .key)) ≡ t .key) ts → Distinct ts → Distinct (rotated w met partner sin cos ts)
   unfolding rotated
   rotated-distinct ts back D =
       cond-holds Distinct (isZero sin)
-      (same-distinct ts _ (map-keys (scaledMet met partner sin cos) (λ t. cond-key (met (t .key)) (t .key) _ t refl) ts) D)
-      (distinct-append (map (turnedRow met partner sin cos ts) ts) (appendedRows met partner sin cos ts ts)
-      (distinct-map _ (turnedRow met partner sin cos ts) (turned-apart ts) ts (all-and Back (Held ts) ts back (members ts)) D)
-      (distinct-of (appendedRows met partner sin cos ts ts) (appended-apart ts ts back (apart-of ts D)))
-      (all-map (Held ts) _ (turnedRow met partner sin cos ts) ts
-      (λ t x. appended-all (Other (turnedRow met partner sin cos ts t .key)) ts ts (all-every _ ts (λ s. new t s x))) (members ts)))
+      (same-distinct ts _ (map-keys (scaledMet w met partner sin cos) (λ t. cond-key (met (t .key)) (t .key) _ t refl) ts) D)
+      (distinct-append (map (turnedRow w met partner sin cos ts) ts) (appendedRows w met partner sin cos ts ts)
+      (distinct-map _ (turnedRow w met partner sin cos ts) (turned-apart ts) ts (all-and Back (Held ts) ts back (members ts)) D)
+      (distinct-of (appendedRows w met partner sin cos ts ts) (appended-apart ts ts back (apart-of ts D)))
+      (all-map (Held ts) _ (turnedRow w met partner sin cos ts) ts
+      (λ t x. appended-all (Other (turnedRow w met partner sin cos ts t .key)) ts ts (all-every _ ts (λ s. new t s x))) (members ts)))
     where
       -- no row has an appended word
       new : (t s : Term) → Held ts t → isZero cos ≡ false → find (partner (s .key)) ts ≡ none
-          → Other (turnedRow met partner sin cos ts t .key) (flippedTerm met partner sin cos s)
+          → Other (turnedRow w met partner sin cos ts t .key) (flippedTerm w met partner sin cos s)
       new t s x z e q = ⊎-elim (λ k. x (partner (s .key)) e (sym q ∙ k)) (λ k. true≢false (sym (k .0) ∙ z)) (turned-key ts t)
 
   -- a property of terms that a term with the same word has, and one with the partner's
   pub rotated-all : (p : Term → Type 0) (ts : List Term) → ((t u : Term) → t .key ≡ u .key → p t → p u) → ((t u : Term) → partner (t .key) ≡ u .key → p t → p u)
-      → All p ts → All p (rotated met partner sin cos ts)
+      → All p ts → All p (rotated w met partner sin cos ts)
   rotated-all p ts same turn =
-      rotated-keeps met partner sin cos p p ts (λ t h. h) (λ t h m. same t _ refl h) (λ t h m. turn t _ refl h) (λ t d h m e. same t _ refl h)
+      rotated-keeps w met partner sin cos p p ts (λ t h. h) (λ t h m. same t _ refl h) (λ t h m. turn t _ refl h) (λ t d h m e. same t _ refl h)
 
-  appended-append : (old ts us : List Term) → appendedRows met partner sin cos old (ts ++ us) ≡ appendedRows met partner sin cos old ts ++ appendedRows met partner sin cos old us
+  appended-append : (old ts us : List Term) → appendedRows w met partner sin cos old (ts ++ us) ≡ appendedRows w met partner sin cos old ts ++ appendedRows w met partner sin cos old us
   unfolding appendedRows
   appended-append old [] us = refl
   appended-append old (t ∷ ts) us =
-      let head = cond (met (t .key)) (appendedTerm met partner sin cos t (find (partner (t .key)) old)) [] in
+      let head = cond (met (t .key)) (appendedTerm w met partner sin cos t (find (partner (t .key)) old)) [] in
       ap (λ (l : List Term). head ++ l) (appended-append old ts us)
-      ∙ sym (append-assoc head (appendedRows met partner sin cos old ts) (appendedRows met partner sin cos old us))
+      ∙ sym (append-assoc head (appendedRows w met partner sin cos old ts) (appendedRows w met partner sin cos old us))
 
 -- ---- in place
 
-module _ (met : Key → Bool) (partner : Key → Key) (sin cos : Float) (ts : List Term) (pairs : All (λ t. Paired met partner (t .key)) ts) (differ : Distinct ts) where
+module _ (w : ℕ) (met : Key → Bool) (partner : Key → Key) (sin cos : Float) (ts : List Term) (pairs : All (λ t. Paired w met partner (t .key)) ts) (differ : Distinct ts) where
   abbrev count : ℕ
   count = length ts
 
@@ -192,8 +193,8 @@ module _ (met : Key → Bool) (partner : Key → Key) (sin cos : Float) (ts : Li
   unfoldable mate : ℕ → Found
   mate j = rowOf count (partner (word j)) ts
 
-  paired-at : (j : ℕ) → j < count → Paired met partner (word j)
-  paired-at j h = all-at (λ t. Paired met partner (t .key)) ts j noTerm h pairs
+  paired-at : (j : ℕ) → j < count → Paired w met partner (word j)
+  paired-at j h = all-at (λ t. Paired w met partner (t .key)) ts j noTerm h pairs
 
   one-row : (i j : ℕ) → i < count → j < count → word i ≡ word j → i ≡ j
   unfolding Distinct
@@ -222,17 +223,17 @@ module _ (met : Key → Bool) (partner : Key → Key) (sin cos : Float) (ts : Li
 
   -- row j from the old values
   unfoldable turned : ℕ → Term
-  turned j = turnedRow met partner sin cos ts (old j)
+  turned j = turnedRow w met partner sin cos ts (old j)
 
   turned-unmet : (j : ℕ) → met (word j) ≡ false → turned j ≡ old j
   unfolding turned
   turned-unmet j u = rw u
 
-  turned-met : (j : ℕ) (f : Found) → met (word j) ≡ true → mate j ≡ f → turned j ≡ turnedTerm met partner sin cos (old j) (coeffOf ts f)
+  turned-met : (j : ℕ) (f : Found) → met (word j) ≡ true → mate j ≡ f → turned j ≡ turnedTerm w met partner sin cos (old j) (coeffOf ts f)
   unfolding turned mate
   turned-met j f m e =
-      ap (λ (b : Bool). cond b (turnedTerm met partner sin cos (old j) (find (partner (word j)) ts)) (old j)) m
-      ∙ ap (turnedTerm met partner sin cos (old j)) (find-row (partner (word j)) ts ∙ ap (coeffOf ts) e)
+      ap (λ (b : Bool). cond b (turnedTerm w met partner sin cos (old j) (find (partner (word j)) ts)) (old j)) m
+      ∙ ap (turnedTerm w met partner sin cos (old j)) (find-row (partner (word j)) ts ∙ ap (coeffOf ts) e)
 
   -- the row at whose turn row j is done
   abbrev leadOf : ℕ → Found → ℕ
@@ -291,7 +292,7 @@ module _ (met : Key → Bool) (partner : Key → Key) (sin cos : Float) (ts : Li
       ⊎-elim
       (λ k. inl (same ∙ k))
       (λ k. let q = row-nothing (partner (word j)) ts (k .1 .0) in let l = lead-is j Nothing q in inr (q, (omega arith, same ∙ k .1 .1)))
-      (turned-key met partner sin cos ts (old j)))
+      (turned-key w met partner sin cos ts (old j)))
       (λ (h : i ≤ lead j). inl (ap (λ (t : Term). t .key) (row-old i j h)))
       (lt-or-le (lead j) i)
 
@@ -315,17 +316,17 @@ module _ (met : Key → Bool) (partner : Key → Key) (sin cos : Float) (ts : Li
 
   -- what the first i rows append, and all rows when they have had their turn
   unfoldable appended : ℕ → List Term
-  appended i = appendedRows met partner sin cos ts (take i ts)
+  appended i = appendedRows w met partner sin cos ts (take i ts)
 
   unfoldable state : ℕ → List Term
   state i = tab count (row i) ++ appended i
 
-  appended-suc : (i : ℕ) → i < count → (b : Bool) (f : Found) → met (word i) ≡ b → mate i ≡ f → appended (suc i) ≡ appended i ++ cond b (appendedTerm met partner sin cos (old i) (coeffOf ts f)) []
+  appended-suc : (i : ℕ) → i < count → (b : Bool) (f : Found) → met (word i) ≡ b → mate i ≡ f → appended (suc i) ≡ appended i ++ cond b (appendedTerm w met partner sin cos (old i) (coeffOf ts f)) []
   unfolding appended mate appendedRows
   appended-suc i h b f m e =
-      ap (appendedRows met partner sin cos ts) (take-suc ts i noTerm h)
-      ∙ appended-append met partner sin cos ts (take i ts) (old i ∷ [])
-      ∙ ap (λ (l : List Term). appended i ++ l) (append-nil _ ∙ (λ k. cond (m k) (appendedTerm met partner sin cos (old i) ((find-row (partner (word i)) ts ∙ ap (coeffOf ts) e) k)) []))
+      ap (appendedRows w met partner sin cos ts) (take-suc ts i noTerm h)
+      ∙ appended-append w met partner sin cos ts (take i ts) (old i ∷ [])
+      ∙ ap (λ (l : List Term). appended i ++ l) (append-nil _ ∙ (λ k. cond (m k) (appendedTerm w met partner sin cos (old i) ((find-row (partner (word i)) ts ∙ ap (coeffOf ts) e) k)) []))
 
   in-front : (i j : ℕ) → j < count → j < length (tab count (row i))
   in-front i j h = rw (length-tab count (row i)) h
@@ -343,9 +344,9 @@ module _ (met : Key → Bool) (partner : Key → Key) (sin cos : Float) (ts : Li
       first-ext (λ j. sameKey (getD (state i) j noTerm .key) (partner (getD (state i) i noTerm .key))) (λ j. sameKey (word j) (partner (word i))) count
       (λ j l. (λ k. sameKey (state-at i j l k .key) (partner (state-key i h k))) ∙ search-same i j h l)
 
-  step-as : (i : ℕ) → i < count → branchRow met partner sin cos count i (state i) ≡ cond (met (word i)) (branchBy met partner sin cos i (state i) (mate i)) (state i)
+  step-as : (i : ℕ) → i < count → branchRow w met partner sin cos count i (state i) ≡ cond (met (word i)) (branchBy w met partner sin cos i (state i) (mate i)) (state i)
   unfolding branchRow
-  step-as i h = λ k. cond (met (state-key i h k)) (branchBy met partner sin cos i (state i) (state-find i h k)) (state i)
+  step-as i h = λ k. cond (met (state-key i h k)) (branchBy w met partner sin cos i (state i) (state-find i h k)) (state i)
 
   -- the rows as they are after row i, with nothing appended
   stays : (i : ℕ) → ((j : ℕ) → j < count → lead j ≡ i → row i j ≡ row (suc i) j) → state i ≡ tab count (row (suc i)) ++ (appended i ++ [])
@@ -367,7 +368,7 @@ module _ (met : Key → Bool) (partner : Key → Key) (sin cos : Float) (ts : Li
     own : getD (state i) i noTerm ≡ old i
     own = let l = lead-is i Nothing e in state-at i i h ∙ row-old i i (omega arith)
 
-    front-set : (t : Term) → turnedTerm met partner sin cos (old i) none ≡ t → set (state i) i t ≡ tab count (row (suc i)) ++ appended i
+    front-set : (t : Term) → turnedTerm w met partner sin cos (old i) none ≡ t → set (state i) i t ≡ tab count (row (suc i)) ++ appended i
     unfolding state
     front-set t q =
         let l = lead-is i Nothing e in
@@ -376,23 +377,23 @@ module _ (met : Key → Bool) (partner : Key → Key) (sin cos : Float) (ts : Li
         (sym (tab-set count (row i) (row (suc i)) i t h (row-done (suc i) i (omega arith) ∙ turned-met i Nothing m e ∙ q)
         (λ j l d. sym (row-keep i j (λ q. ⊎-elim d (λ (a : mate j ≡ At i). at-not-none (mate i) j (mate-back j i l a) e) (lead-row i j q))))))
 
-    step-lone : branchLone met partner sin cos i (state i) ≡ tab count (row (suc i)) ++ (appended i ++ appendedTerm met partner sin cos (old i) none)
+    step-lone : branchLone w met partner sin cos i (state i) ≡ tab count (row (suc i)) ++ (appended i ++ appendedTerm w met partner sin cos (old i) none)
     step-lone = ⊎-elim
         (λ (z : isZero cos ≡ true).
-        rw z (ap (λ (t : Term). set (state i) i (flippedTerm met partner sin cos t)) own ∙ front-set _ (rw z) ∙ ap (λ (l : List Term). tab count (row (suc i)) ++ l) (sym (append-nil (appended i)))))
+        rw z (ap (λ (t : Term). set (state i) i (flippedTerm w met partner sin cos t)) own ∙ front-set _ (rw z) ∙ ap (λ (l : List Term). tab count (row (suc i)) ++ l) (sym (append-nil (appended i)))))
         (λ (z : isZero cos ≡ false).
-        rw z (ap (λ (t : Term). set (state i) i (term (t .key) (scaledOf cos (t .coeff))) ++ (flippedTerm met partner sin cos t ∷ [])) own
-        ∙ ap (λ (l : List Term). l ++ (flippedTerm met partner sin cos (old i) ∷ [])) (front-set _ (rw z))
-        ∙ append-assoc (tab count (row (suc i))) (appended i) (flippedTerm met partner sin cos (old i) ∷ [])))
+        rw z (ap (λ (t : Term). set (state i) i (term (t .key) (scaledOf cos (t .coeff))) ++ (flippedTerm w met partner sin cos t ∷ [])) own
+        ∙ ap (λ (l : List Term). l ++ (flippedTerm w met partner sin cos (old i) ∷ [])) (front-set _ (rw z))
+        ∙ append-assoc (tab count (row (suc i))) (appended i) (flippedTerm w met partner sin cos (old i) ∷ [])))
         (bool-cases (isZero cos))
 
   -- a row with a partner
   module _ (i p : ℕ) (h : i < count) (m : met (word i) ≡ true) (e : mate i ≡ At p) where
     abbrev mixedAt : ℕ → ℕ → Term
-    mixedAt i p = term (word i) (mixed sin cos (old i .coeff) (old p .coeff))
+    mixedAt i p = term (word i) (mixed (oddY w (word i)) sin cos (old i .coeff) (old p .coeff))
 
     -- the earlier of the two
-    pair-first : i < p → branchPair met partner sin cos i p (state i) ≡ tab count (row (suc i)) ++ (appended i ++ [])
+    pair-first : i < p → branchPair w met partner sin cos i p (state i) ≡ tab count (row (suc i)) ++ (appended i ++ [])
     unfolding state
     pair-first lt =
         let hp : p < count = mate-at i p e .0 in
@@ -407,13 +408,14 @@ module _ (met : Key → Bool) (partner : Key → Key) (sin cos : Float) (ts : Li
         (row-done (suc i) i (omega arith) ∙ turned-met i (At p) m e) (row-done (suc i) p (omega arith) ∙ turned-met p (At i) mp eb)
         (λ j l d b. sym (row-keep i j (λ q. ⊎-elim d (λ (a : mate j ≡ At i). b (at-inj (mate i) j p (mate-back j i l a) e)) (lead-row i j q)))) in
         rw (lt-ltb i p lt)
-        ((λ k. set (set (state i) i (term (own k .key) (mixed sin cos (own k .coeff) (its k .coeff)))) p (term (its k .key) (mixed sin cos (its k .coeff) (own k .coeff))))
+        ((λ k. set (set (state i) i (term (own k .key) (mixed (oddY w (own k .key)) sin cos (own k .coeff) (its k .coeff)))) p (term (its k .key) (mixed (not (oddY w (own k .key))) sin cos (its k .coeff) (own k .coeff))))
+        ∙ ap (λ (o : Bool). set (set (state i) i (mixedAt i p)) p (term (word p) (mixed o sin cos (old p .coeff) (old i .coeff)))) (sym (ap (oddY w) (mate-at i p e .1) ∙ paired-at i h .other m))
         ∙ ap (λ (l : List Term). set l p (mixedAt p i)) (set-append-left (tab count (row i)) (appended i) i (mixedAt i p) (in-front i i h))
         ∙ set-append-left (set (tab count (row i)) i (mixedAt i p)) (appended i) p (mixedAt p i) (rw length-set (in-front i p hp))
         ∙ (λ k. sym rows k ++ sym (append-nil (appended i)) k))
 
     -- the later: no row is done at its turn
-    pair-later : p ≤ i → branchPair met partner sin cos i p (state i) ≡ tab count (row (suc i)) ++ (appended i ++ [])
+    pair-later : p ≤ i → branchPair w met partner sin cos i p (state i) ≡ tab count (row (suc i)) ++ (appended i ++ [])
     pair-later le =
         let d : p ≡ i → ⊥ = λ q. mate-self i h (e ∙ ap At q) in
         rw (le-ltb i p le) (stays i (λ j l q. absurd (⊎-elim
@@ -421,18 +423,18 @@ module _ (met : Key → Bool) (partner : Key → Key) (sin cos : Float) (ts : Li
         (λ (a : mate j ≡ At i). let s = lead-is j (At i) a in let b = at-inj (mate i) j p (mate-back j i l a) e in d (omega arith))
         (lead-row i j q))))
 
-    step-pair : branchPair met partner sin cos i p (state i) ≡ tab count (row (suc i)) ++ (appended i ++ [])
+    step-pair : branchPair w met partner sin cos i p (state i) ≡ tab count (row (suc i)) ++ (appended i ++ [])
     step-pair = ⊎-elim pair-first pair-later (lt-or-le i p)
 
   -- ---- all of them
 
   step-cases : (i : ℕ) → i < count → (b : Bool) (f : Found) → met (word i) ≡ b → mate i ≡ f
-      → cond b (branchBy met partner sin cos i (state i) f) (state i) ≡ tab count (row (suc i)) ++ (appended i ++ cond b (appendedTerm met partner sin cos (old i) (coeffOf ts f)) [])
+      → cond b (branchBy w met partner sin cos i (state i) f) (state i) ≡ tab count (row (suc i)) ++ (appended i ++ cond b (appendedTerm w met partner sin cos (old i) (coeffOf ts f)) [])
   step-cases i h false f m e = step-unmet i h m
   step-cases i h true Nothing m e = step-lone i h m e
   step-cases i h true (At p) m e = step-pair i p h m e
 
-  step : (i : ℕ) → i < count → branchRow met partner sin cos count i (state i) ≡ state (suc i)
+  step : (i : ℕ) → i < count → branchRow w met partner sin cos count i (state i) ≡ state (suc i)
   unfolding state
   step i h =
       step-as i h ∙ step-cases i h (met (word i)) (mate i) refl refl ∙ ap (λ (l : List Term). tab count (row (suc i)) ++ l) (sym (appended-suc i h (met (word i)) (mate i) refl refl))
@@ -444,18 +446,18 @@ module _ (met : Key → Bool) (partner : Key → Key) (sin cos : Float) (ts : Li
   unfolding state appended appendedRows
   start = append-nil (tab count (row 0)) ∙ tab-ext count (row 0) old (λ j l. row-old 0 j (omega arith)) ∙ tab-old
 
-  steps : (i : ℕ) → i ≤ count → branchTo met partner sin cos count i ts ≡ state i
+  steps : (i : ℕ) → i ≤ count → branchTo w met partner sin cos count i ts ≡ state i
   unfolding branchTo
   steps zero h = sym start
-  steps (suc i) h = ap (branchRow met partner sin cos count i) (steps i (omega arith)) ∙ step i h
+  steps (suc i) h = ap (branchRow w met partner sin cos count i) (steps i (omega arith)) ∙ step i h
 
-  in-place : branchTo met partner sin cos count count ts ≡ map (turnedRow met partner sin cos ts) ts ++ appendedRows met partner sin cos ts ts
+  in-place : branchTo w met partner sin cos count count ts ≡ map (turnedRow w met partner sin cos ts) ts ++ appendedRows w met partner sin cos ts ts
   unfolding state appended turned
   in-place =
       steps count (le-refl count)
-      ∙ (λ k. (tab-ext count (row count) turned (λ j l. row-done count j (omega (arith, lead-le j))) ∙ sym (map-tab count old (turnedRow met partner sin cos ts)) ∙ ap (map (turnedRow met partner sin cos ts)) tab-old) k
-      ++ appendedRows met partner sin cos ts (take-length ts k))
+      ∙ (λ k. (tab-ext count (row count) turned (λ j l. row-done count j (omega (arith, lead-le j))) ∙ sym (map-tab count old (turnedRow w met partner sin cos ts)) ∙ ap (map (turnedRow w met partner sin cos ts)) tab-old) k
+      ++ appendedRows w met partner sin cos ts (take-length ts k))
 
-  pub branched-rotated : branched met partner sin cos ts ≡ rotated met partner sin cos ts
+  pub branched-rotated : branched w met partner sin cos ts ≡ rotated w met partner sin cos ts
   unfolding branched rotated
-  branched-rotated = ap (cond (isZero sin) (map (scaledMet met partner sin cos) ts)) in-place
+  branched-rotated = ap (cond (isZero sin) (map (scaledMet w met partner sin cos) ts)) in-place

@@ -74,15 +74,15 @@ channeled-count w a b c ts = by (c .kind)
 
 -- ---- a rotation
 
-module _ (met : Key → Bool) (partner : Key → Key) (sin cos : Float) where
-  appended-count : (old ts : List Term) → length (appendedRows met partner sin cos old ts) ≤ length ts
+module _ (w : ℕ) (met : Key → Bool) (partner : Key → Key) (sin cos : Float) where
+  appended-count : (old ts : List Term) → length (appendedRows w met partner sin cos old ts) ≤ length ts
   unfolding appendedRows
   appended-count old [] = omega arith
   appended-count old (t ∷ ts) =
       let h = appended-count old ts in
-      appended-cases met partner sin cos (λ l. length (l ++ appendedRows met partner sin cos old ts) ≤ length (t ∷ ts)) old t (omega arith) (λ z e. omega arith)
+      appended-cases w met partner sin cos (λ l. length (l ++ appendedRows w met partner sin cos old ts) ≤ length (t ∷ ts)) old t (omega arith) (λ z e. omega arith)
 
-  pub rotated-count : (ts : List Term) → length (rotated met partner sin cos ts) ≤ 2 * length ts
+  pub rotated-count : (ts : List Term) → length (rotated w met partner sin cos ts) ≤ 2 * length ts
   unfolding rotated
   rotated-count ts =
-      either (isZero sin) (map (scaledMet met partner sin cos) ts) (map (turnedRow met partner sin cos ts) ts ++ appendedRows met partner sin cos ts ts) (2 * length ts) (rw length-map (omega arith)) (simp (length-append, length-map) (omega (arith, appended-count ts ts)))
+      either (isZero sin) (map (scaledMet w met partner sin cos) ts) (map (turnedRow w met partner sin cos ts) ts ++ appendedRows w met partner sin cos ts ts) (2 * length ts) (rw length-map (omega arith)) (simp (length-append, length-map) (omega (arith, appended-count ts ts)))

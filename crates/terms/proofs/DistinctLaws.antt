@@ -7,15 +7,15 @@ use native.Mathlib.Nat.{le-of-suc-le-suc, not-suc-le-zero, suc-inj}
 use native.Mathlib.Omega.{arith}
 use lib.ListN.{length, getD, length-map, List·getD-map}
 use lib.Ieee.{Float}
+use Rattle.numbers.specs.Constants.{zero64}
 use Rattle.words.specs.declared.Gate.{Gate}
 use Rattle.words.specs.Keys.{Key, sameKey, zAt, Words}
 use Rattle.words.specs.Gates.{Targets}
 use Rattle.words.proofs.KeyLaws.{sameKey-refl, flipAt-length, flipAt-words}
 use Rattle.words.proofs.GateLaws.{conjKey-length, conjKey-words}
 use Rattle.words.proofs.InverseLaws.{conjKey-injective}
-use Rattle.terms.specs.declared.Complex64.{Complex64}
 use Rattle.terms.specs.declared.ChannelAction.{ChannelAction}
-use Rattle.terms.specs.Coefficient.{none64}
+use Rattle.terms.specs.Coefficient.{}
 use Rattle.terms.specs.Lists.{All}
 use Rattle.terms.specs.Term.{Term, term, noTerm, OnWidth, Distinct, isIn, addTo, conjugated}
 use Rattle.terms.specs.Start.{share, coalesced, merged}
@@ -105,17 +105,17 @@ pub map-keys : (f : Term → Term) → ((t : Term) → t .key ≡ f t .key) → 
 map-keys f k [] = refl
 map-keys f k (t ∷ ts) = λ i. k t i ∷ map-keys f k ts i
 
-pub cond-key : (b : Bool) (k : Key) (c : Complex64) (t : Term) → t .key ≡ k → t .key ≡ cond b (term k c) t .key
+pub cond-key : (b : Bool) (k : Key) (c : Float) (t : Term) → t .key ≡ k → t .key ≡ cond b (term k c) t .key
 cond-key true k c t e = e
 cond-key false k c t e = refl
 
-pub addTo-keys : (k : Key) (d : Complex64) (ts : List Term) → keysOf ts ≡ keysOf (addTo k d ts)
+pub addTo-keys : (k : Key) (d : Float) (ts : List Term) → keysOf ts ≡ keysOf (addTo k d ts)
 unfolding addTo
 addTo-keys k d [] = refl
 addTo-keys k d (t ∷ ts) =
     cond-holds (λ us. keysOf (t ∷ ts) ≡ keysOf us) (sameKey k (t .key)) refl (ap (λ (ks : List Key). t .key ∷ ks) (addTo-keys k d ts))
 
-pub addTo-length : (k : Key) (d : Complex64) (ts : List Term) → length (addTo k d ts) ≡ length ts
+pub addTo-length : (k : Key) (d : Float) (ts : List Term) → length (addTo k d ts) ≡ length ts
 addTo-length k d ts = keys-length ts (addTo k d ts) (addTo-keys k d ts)
 
 -- ---- words that no term has
@@ -170,12 +170,12 @@ kept-distinct e ts D = distinct-of (keptOf e ts) (kept-apart e ts (apart-of ts D
 
 -- ---- the merge at the start
 
-share-keys : (ts : List Term) (t : Term) → keysOf (added ts (term (t .key) none64)) ≡ keysOf (share ts t)
+share-keys : (ts : List Term) (t : Term) → keysOf (added ts (term (t .key) zero64)) ≡ keysOf (share ts t)
 unfolding share
-share-keys ts t = addTo-keys (t .key) (t .coeff) (added ts (term (t .key) none64))
+share-keys ts t = addTo-keys (t .key) (t .coeff) (added ts (term (t .key) zero64))
 
 share-distinct : (ts : List Term) (t : Term) → Distinct ts → Distinct (share ts t)
-share-distinct ts t D = same-distinct (added ts (term (t .key) none64)) (share ts t) (share-keys ts t) (added-distinct ts (term (t .key) none64) D)
+share-distinct ts t D = same-distinct (added ts (term (t .key) zero64)) (share ts t) (share-keys ts t) (added-distinct ts (term (t .key) zero64) D)
 
 pub coalesced-distinct : (ts : List Term) → Distinct (coalesced ts)
 coalesced-distinct ts = fold-keeps (λ t. Unit {0}) Distinct share (λ us t x D. share-distinct us t D) ts [] (all-every _ ts (λ t. tt)) (distinct-of [] tt)

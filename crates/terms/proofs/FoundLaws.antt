@@ -3,9 +3,9 @@ use mathlib.Core.Path.{_≡_, refl, sym, ap, ap₂, _∙_}
 use mathlib.Core.Bool.{Bool, true, false, cond, _||_}
 use mathlib.Core.List.{List, [], _∷_}
 use lib.ListN.{length, getD, set}
+use lib.Ieee.{Float}
 use Rattle.words.specs.Keys.{Key, sameKey}
 use Rattle.words.proofs.KeyLaws.{sameKey-sym}
-use Rattle.terms.specs.declared.Complex64.{Complex64}
 use Rattle.terms.specs.declared.Found.{Found}
 use Rattle.terms.specs.declared.Found.the-variants.{At, Nothing}
 use Rattle.terms.specs.Coefficient.{plusOf}
@@ -14,7 +14,7 @@ use Rattle.terms.specs.Branch.{first, rowOf}
 use Rattle.terms.proofs.FirstLaws.{orLater, first-cons}
 
 -- d added to the coefficient of a row that was found
-abbrev pub addedAt : Complex64 → List Term → Found → List Term
+abbrev pub addedAt : Float → List Term → Found → List Term
 addedAt d ts (At j) = let t = getD ts j noTerm in set ts j (term (t .key) (plusOf (t .coeff) d))
 addedAt d ts Nothing = ts
 
@@ -22,7 +22,7 @@ abbrev pub isAt : Found → Bool
 isAt (At j) = true
 isAt Nothing = false
 
-pub added-row : (k : Key) (d : Complex64) (ts : List Term) → addTo k d ts ≡ addedAt d ts (rowOf (length ts) k ts)
+pub added-row : (k : Key) (d : Float) (ts : List Term) → addTo k d ts ≡ addedAt d ts (rowOf (length ts) k ts)
 unfolding addTo first
 added-row k d [] = refl
 added-row k d (t ∷ ts) =

@@ -11,7 +11,6 @@ use lib.Seq.{take-suc}
 use lib.Ieee.{Float}
 use Rattle.words.specs.Keys.{Key, bitAt, flipAt, zAt, sameKey}
 use Rattle.words.proofs.KeyLaws.{bitAt-cleared, sameKey-ne}
-use Rattle.terms.specs.declared.Complex64.{Complex64}
 use Rattle.terms.specs.Lists.{foldl}
 use Rattle.terms.specs.Coefficient.{scaledOf, plusOf}
 use Rattle.terms.specs.Term.{Term, term, noTerm, isIn, addTo}
@@ -22,7 +21,7 @@ use Rattle.terms.proofs.ListLaws.{fold-snoc}
 
 -- ---- what is added to one word changes no other term
 
-added-other : (k : Key) (d : Complex64) (ts : List Term) (j : ℕ) → sameKey k (getD ts j noTerm .key) ≡ false → getD (addTo k d ts) j noTerm ≡ getD ts j noTerm
+added-other : (k : Key) (d : Float) (ts : List Term) (j : ℕ) → sameKey k (getD ts j noTerm .key) ≡ false → getD (addTo k d ts) j noTerm ≡ getD ts j noTerm
 unfolding addTo
 added-other k d [] j h = refl
 added-other k d (t ∷ ts) j h = go (sameKey k (t .key)) refl j h (added-other k d ts)
@@ -68,7 +67,7 @@ module _ (w q : ℕ) (f : Float) where
   still-step us t = go (flipAt (t .key) (zAt w q)) (scaledOf f (t .coeff)) (isZLetter w q (t .key)) (isIn (flipAt (t .key) (zAt w q)) us)
       (λ e. bitAt-cleared (t .key) (zAt w q) (z-bit (t .key) e))
     where
-      go : (k : Key) (d : Complex64) (b c : Bool) → (b ≡ true → bitAt k (zAt w q) ≡ false) → AllStill us (cond b (cond c (addTo k d us) (us ++ (term k d ∷ []))) us)
+      go : (k : Key) (d : Float) (b c : Bool) → (b ≡ true → bitAt k (zAt w q) ≡ false) → AllStill us (cond b (cond c (addTo k d us) (us ++ (term k d ∷ []))) us)
       go k d false c e = (omega arith, λ j h. record { key = refl; whole = λ x. refl })
       go k d true true e = (
         omega (arith, addTo-length k d us),

@@ -30,10 +30,10 @@ module _ (P : Key → Type 0) where
   unfolding conjugated
   keys-gate w g a b m ts = all-map OfKey OfKey (conjugated w g a b) ts (λ t. m (t .key))
 
-  pub keys-rotated : (met : Key → Bool) (partner : Key → Key) (sin cos : Float) → ((k : Key) → P k → P (partner k)) → (ts : List Term) → AllKeys ts
-      → AllKeys (rotated met partner sin cos ts)
-  keys-rotated met partner sin cos m ts =
-      rotated-keeps met partner sin cos OfKey OfKey ts (λ t h. h) (λ t h e. h) (λ t h e. m (t .key) h) (λ t d h e f. h)
+  pub keys-rotated : (w : ℕ) (met : Key → Bool) (partner : Key → Key) (sin cos : Float) → ((k : Key) → P k → P (partner k)) → (ts : List Term) → AllKeys ts
+      → AllKeys (rotated w met partner sin cos ts)
+  keys-rotated w met partner sin cos m ts =
+      rotated-keeps w met partner sin cos OfKey OfKey ts (λ t h. h) (λ t h e. h) (λ t h e. m (t .key) h) (λ t d h e f. h)
 
   pub keys-channeled : (w a b : ℕ) → ((k : Key) → P k → P (flipAt k (zAt w a))) → (c : ChannelAction) (ts : List Term) → AllKeys ts → AllKeys (channeled w a b c ts)
   keys-channeled w a b m c = channel-all w a b c OfKey OfKey (λ k c d p q. p) (λ f t p. p) (λ t e p. m (t .key) p) (λ t p. p)

@@ -20,8 +20,9 @@ use Rattle.terms.specs.declared.ChannelKind.{ChannelKind}
 use Rattle.terms.specs.declared.ChannelKind.the-variants.{Local, Depolarizing2q}
 use Rattle.terms.specs.declared.ChannelAction.{ChannelAction}
 use Rattle.terms.specs.Lists.{All, foldl}
-use Rattle.terms.specs.Coefficient.{turnedOf}
-use Rattle.terms.specs.Term.{Term, term, noTerm, conjugated}
+use Rattle.terms.specs.Coefficient.{signed}
+use Rattle.terms.proofs.SignLaws.{unmet-sign}
+use Rattle.terms.specs.Term.{oddY, Term, term, noTerm, conjugated}
 use Rattle.terms.specs.Rotation.{metBy, partnerBy, scaledMet, turnedRow, appendedRows, rotated}
 use Rattle.terms.specs.Branch.{branchRow, branchTo, branched}
 use Rattle.terms.specs.Met.{gateTargets, axisTargets, kindTargets}
@@ -86,39 +87,39 @@ module _ (w : ℕ) where
       go false h = rw (h .0 .0, h .0 .1)
 
   pub bare-conjugated : (g : Gate) (a b : ℕ) (ts : List Term) → All (λ (t : Term). Bare (t .key) (gateTargets g a b)) ts → map (conjugated w g a b) ts ≡ ts
-  unfolding conjugated turnedOf
+  unfolding conjugated
   bare-conjugated g a b ts h = map-same (λ (t : Term). Bare (t .key) (gateTargets g a b)) (conjugated w g a b) ts
       (λ t p. let m = bare-gate g a b (t .key) p in
-      ap₂ (λ (k : Key) (n : ℕ). term k (turnedOf n (t .coeff))) (unmet-key g w a b (t .key) m) (unmet-phase g (bitsAt w a b (t .key)) m)) h
+      ap₂ (λ (k : Key) (n : Bool). term k (signed n (t .coeff))) (unmet-key g w a b (t .key) m) (unmet-sign g (bitsAt w a b (t .key)) (oddY w (t .key)) m)) h
 
   pub unmet-gate : (g : Gate) (a b : ℕ) (ts : List Term) → Within (gateTargets g a b) → ClearAt (gateTargets g a b) ts → map (conjugated w g a b) ts ≡ ts
   unmet-gate g a b ts v h = bare-conjugated g a b ts (bare (gateTargets g a b) ts v h)
 
-module _ (met : Key → Bool) (partner : Key → Key) (sin cos : Float) where
+module _ (w : ℕ) (met : Key → Bool) (partner : Key → Key) (sin cos : Float) where
   abbrev Unmet : Term → Type 0
   Unmet t = met (t .key) ≡ false
 
-  unmet-appended : (old ts : List Term) → All Unmet ts → appendedRows met partner sin cos old ts ≡ []
+  unmet-appended : (old ts : List Term) → All Unmet ts → appendedRows w met partner sin cos old ts ≡ []
   unfolding appendedRows
   unmet-appended old [] h = refl
   unmet-appended old (t ∷ ts) h = rw (h .0) (unmet-appended old ts (h .1))
 
   -- the rotation in place, row after row
-  unmet-rows-to : (n i : ℕ) (ts : List Term) → i ≤ length ts → All Unmet ts → branchTo met partner sin cos n i ts ≡ ts
+  unmet-rows-to : (n i : ℕ) (ts : List Term) → i ≤ length ts → All Unmet ts → branchTo w met partner sin cos n i ts ≡ ts
   unfolding branchTo branchRow
   unmet-rows-to n zero ts l h = refl
   unmet-rows-to n (suc i) ts l h = rw (unmet-rows-to n i ts (omega arith) h, all-at Unmet ts i noTerm (omega arith) h) refl
 
-  unmet-in-place : (ts : List Term) → All Unmet ts → branched met partner sin cos ts ≡ ts
+  unmet-in-place : (ts : List Term) → All Unmet ts → branched w met partner sin cos ts ≡ ts
   unfolding branched
   unmet-in-place ts h =
-      cond-holds (λ us. us ≡ ts) (isZero sin) (map-same Unmet (scaledMet met partner sin cos) ts (λ t e. rw e) h) (unmet-rows-to (length ts) (length ts) ts (le-refl _) h)
+      cond-holds (λ us. us ≡ ts) (isZero sin) (map-same Unmet (scaledMet w met partner sin cos) ts (λ t e. rw e) h) (unmet-rows-to (length ts) (length ts) ts (le-refl _) h)
 
-  unmet-rows : (ts : List Term) → All Unmet ts → rotated met partner sin cos ts ≡ ts
+  unmet-rows : (ts : List Term) → All Unmet ts → rotated w met partner sin cos ts ≡ ts
   unfolding rotated
   unmet-rows ts h =
-      cond-holds (λ us. us ≡ ts) (isZero sin) (map-same Unmet (scaledMet met partner sin cos) ts (λ t e. rw e) h)
-      (rw (map-same Unmet (turnedRow met partner sin cos ts) ts (λ t e. rw e) h, unmet-appended ts ts h) (append-nil ts))
+      cond-holds (λ us. us ≡ ts) (isZero sin) (map-same Unmet (scaledMet w met partner sin cos) ts (λ t e. rw e) h)
+      (rw (map-same Unmet (turnedRow w met partner sin cos ts) ts (λ t e. rw e) h, unmet-appended ts ts h) (append-nil ts))
 
 module _ (w : ℕ) where
   bare-axis : (x : Axis) (k : Key) → Bare w k (axisTargets x) → metBy x k ≡ false
@@ -130,12 +131,12 @@ module _ (w : ℕ) where
   bare-unmet x ts = all-imp (λ (t : Term). Bare w (t .key) (axisTargets x)) (λ t. metBy x (t .key) ≡ false) ts (λ t p. bare-axis x (t .key) p)
 
   pub bare-branched : (x : Axis) (sin cos : Float) (ts : List Term) → All (λ (t : Term). Bare w (t .key) (axisTargets x)) ts
-      → branched (metBy x) (partnerBy w x) sin cos ts ≡ ts
-  bare-branched x sin cos ts h = unmet-in-place (metBy x) (partnerBy w x) sin cos ts (bare-unmet x ts h)
+      → branched w (metBy x) (partnerBy w x) sin cos ts ≡ ts
+  bare-branched x sin cos ts h = unmet-in-place w (metBy x) (partnerBy w x) sin cos ts (bare-unmet x ts h)
 
   pub unmet-rotated : (x : Axis) (sin cos : Float) (ts : List Term) → Within w (axisTargets x) → ClearAt w (axisTargets x) ts
-      → rotated (metBy x) (partnerBy w x) sin cos ts ≡ ts
-  unmet-rotated x sin cos ts v h = unmet-rows (metBy x) (partnerBy w x) sin cos ts (bare-unmet x ts (bare w (axisTargets x) ts v h))
+      → rotated w (metBy x) (partnerBy w x) sin cos ts ≡ ts
+  unmet-rotated x sin cos ts v h = unmet-rows w (metBy x) (partnerBy w x) sin cos ts (bare-unmet x ts (bare w (axisTargets x) ts v h))
 
   pub bare-channeled : (a b : ℕ) (c : ChannelAction) (ts : List Term) → All (λ (t : Term). Bare w (t .key) (kindTargets (c .kind) a b)) ts → channeled w a b c ts ≡ ts
   unfolding channeled scaledLocal
@@ -177,8 +178,8 @@ module _ (w : ℕ) where
     clear-partner (Zz a b) n k e = letter-flip-z w (flipAt k (zAt w a)) b r (n .1 .0) ∙ letter-flip-z w k a r (n .0) ∙ e
 
     pub clear-rotated : (x : Axis) (sin cos : Float) (ts : List Term) → Apart r (axisTargets x) → Clear w r ts
-        → Clear w r (rotated (metBy x) (partnerBy w x) sin cos ts)
-    clear-rotated x sin cos ts n = keys-rotated NoLetter (metBy x) (partnerBy w x) sin cos (clear-partner x n) ts
+        → Clear w r (rotated w (metBy x) (partnerBy w x) sin cos ts)
+    clear-rotated x sin cos ts n = keys-rotated NoLetter w (metBy x) (partnerBy w x) sin cos (clear-partner x n) ts
 
     pub clear-channeled : (a b : ℕ) (c : ChannelAction) (ts : List Term) → Apart r (kindTargets (c .kind) a b) → Clear w r ts → Clear w r (channeled w a b c ts)
     clear-channeled a b c ts n = keys-channeled NoLetter w a b (λ k e. letter-flip-z w k a r (first (c .kind) n) ∙ e) c ts

@@ -8,13 +8,14 @@ pub mod StepLaws
 pub mod KeySteps
 pub mod DistinctLaws
 pub mod BranchLaws
+pub mod YLaws
 pub mod AxisLaws
 pub mod CountLaws
 pub mod IdentityLaws
 pub mod NearLaws
+pub mod SignLaws
 pub mod TargetLaws
 pub mod NearSteps
 pub mod LetterSteps
-pub mod ParityLaws
-pub mod SizeLaws
+pub mod OnesLaws
 pub mod MetLaws

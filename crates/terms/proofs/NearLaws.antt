@@ -1,17 +1,17 @@
 -- Lists of terms that agree up to the signs of zeros: the relation, and what the drop of small terms, the mean and the tests keep of it. Assumes nothing.
 use mathlib.Core.Path.{_≡_, refl, sym, ap, ap₂, _∙_, subst}
 use Prim.Native.Nat.{ℕ, zero, suc, _%_}
-use mathlib.Core.Bool.{Bool, true, false, _&&_, cond}
+use mathlib.Core.Bool.{Bool, true, false, not, _&&_, cond}
 use mathlib.Core.List.{List, [], _∷_, _++_, map}
 use lib.Dec.{eqb}
 use lib.ListN.{length, getD}
 use lib.Ieee.{Float, binary64}
+use Rattle.numbers.specs.Tests.{absOf}
 use Rattle.numbers.specs.Close.{_≈_, same}
 use Rattle.numbers.proofs.CloseLaws.{≈-sym, ≈-trans, neg-≈, add-≈, mul-≈, lt-≈, finite-≈, abs-≈, is-zero-≈}
 use Rattle.words.specs.Keys.{Key, noX}
-use Rattle.terms.specs.declared.Complex64.{Complex64}
 use Rattle.terms.specs.Lists.{Each, none, more, foldl}
-use Rattle.terms.specs.Coefficient.{scaledOf, flippedOf, plusOf, turnedOf, sizeOf}
+use Rattle.terms.specs.Coefficient.{signed, scaledOf, flippedOf, plusOf}
 use Rattle.terms.specs.Term.{Term, term, allFinite}
 use Rattle.terms.specs.Truncation.{isSmall, keptOf, addDropped, droppedOf}
 use Rattle.terms.specs.Mean.{addMean, meanOf}
@@ -69,38 +69,24 @@ module _ {A D : Type 0} (R : A → D → Type 0) where
 
 -- ---- coefficients
 
-pub record NearC (c d : Complex64) : Type 0 where
-  pub re : c .re ≈ d .re
-  pub im : c .im ≈ d .im
+abbrev pub NearC : Float → Float → Type 0
+NearC c d = c ≈ d
 
-pub near-coeff-refl : (c : Complex64) → NearC c c
-near-coeff-refl c = record { re = same; im = same }
+pub near-signed : (b : Bool) {c d : Float} → c ≈ d → signed b c ≈ signed b d
+near-signed true p = neg-≈ p
+near-signed false p = p
 
-pub near-coeff-sym : {c d : Complex64} → NearC c d → NearC d c
-near-coeff-sym p = record { re = ≈-sym (p .re); im = ≈-sym (p .im) }
+pub near-scaled : {r s : Float} {c d : Float} → r ≈ s → c ≈ d → scaledOf r c ≈ scaledOf s d
+near-scaled e p = mul-≈ binary64 p e
 
-pub near-coeff-trans : {c d e : Complex64} → NearC c d → NearC d e → NearC c e
-near-coeff-trans p q = record { re = ≈-trans (p .re) (q .re); im = ≈-trans (p .im) (q .im) }
+pub near-flipped : (b : Bool) {r s : Float} {c d : Float} → r ≈ s → c ≈ d → flippedOf b r c ≈ flippedOf b s d
+near-flipped b e p = near-signed (not b) (mul-≈ binary64 p e)
 
-pub near-scaled : {r s : Float} {c d : Complex64} → r ≈ s → NearC c d → NearC (scaledOf r c) (scaledOf s d)
-near-scaled e p = record { re = mul-≈ binary64 (p .re) e; im = mul-≈ binary64 (p .im) e }
+pub near-plus : {a b c d : Float} → a ≈ b → c ≈ d → plusOf a c ≈ plusOf b d
+near-plus p q = add-≈ binary64 p q
 
-pub near-flipped : {r s : Float} {c d : Complex64} → r ≈ s → NearC c d → NearC (flippedOf r c) (flippedOf s d)
-near-flipped e p = record { re = mul-≈ binary64 (p .im) e; im = neg-≈ (mul-≈ binary64 (p .re) e) }
-
-pub near-plus : {a b c d : Complex64} → NearC a b → NearC c d → NearC (plusOf a c) (plusOf b d)
-near-plus p q = record { re = add-≈ binary64 (p .re) (q .re); im = add-≈ binary64 (p .im) (q .im) }
-
-pub near-turned : (k : ℕ) {c d : Complex64} → NearC c d → NearC (turnedOf k c) (turnedOf k d)
-unfolding turnedOf
-near-turned k p =
-    cond-both NearC (eqb (k % 4) 1) (record { re = neg-≈ (p .im); im = p .re })
-    (cond-both NearC (eqb (k % 4) 2) (record { re = neg-≈ (p .re); im = neg-≈ (p .im) })
-    (cond-both NearC (eqb (k % 4) 3) (record { re = p .im; im = neg-≈ (p .re) }) p))
-
-pub near-size : {c d : Complex64} → NearC c d → sizeOf c ≈ sizeOf d
-unfolding sizeOf
-near-size p = cond-same _≈_ (is-zero-≈ (p .re)) (abs-≈ (p .im)) (abs-≈ (p .re))
+pub near-size : {c d : Float} → c ≈ d → absOf c ≈ absOf d
+near-size p = abs-≈ p
 
 -- ---- terms
 
@@ -108,21 +94,21 @@ pub record NearTerm (t u : Term) : Type 0 where
   pub key : t .key ≡ u .key
   pub coeff : NearC (t .coeff) (u .coeff)
 
-pub at-key : (k : Key) {c d : Complex64} → NearC c d → NearTerm (term k c) (term k d)
+pub at-key : (k : Key) {c d : Float} → NearC c d → NearTerm (term k c) (term k d)
 at-key k p = record { key = refl; coeff = p }
 
 -- near terms have one word
-pub by-key : (P : Term → Term → Type 0) → ((k : Key) (c d : Complex64) → NearC c d → P (term k c) (term k d)) → {t u : Term} → NearTerm t u → P t u
+pub by-key : (P : Term → Term → Type 0) → ((k : Key) (c d : Float) → NearC c d → P (term k c) (term k d)) → {t u : Term} → NearTerm t u → P t u
 by-key P h {t} {u} p = subst (λ (k : Key). P t (term k (u .coeff))) (p .key) (h (t .key) (t .coeff) (u .coeff) (p .coeff))
 
 pub near-term-refl : (t : Term) → NearTerm t t
-near-term-refl t = at-key (t .key) (near-coeff-refl (t .coeff))
+near-term-refl t = at-key (t .key) (same)
 
 pub near-term-sym : {t u : Term} → NearTerm t u → NearTerm u t
-near-term-sym p = record { key = sym (p .key); coeff = near-coeff-sym (p .coeff) }
+near-term-sym p = record { key = sym (p .key); coeff = ≈-sym (p .coeff) }
 
 pub near-term-trans : {t u v : Term} → NearTerm t u → NearTerm u v → NearTerm t v
-near-term-trans p q = record { key = p .key ∙ q .key; coeff = near-coeff-trans (p .coeff) (q .coeff) }
+near-term-trans p q = record { key = p .key ∙ q .key; coeff = ≈-trans (p .coeff) (q .coeff) }
 
 abbrev pub Near : List Term → List Term → Type 0
 Near ts us = Each NearTerm ts us
@@ -147,7 +133,7 @@ near-length = each-length
 pub near-finite : {ts us : List Term} → Near ts us → allFinite ts ≡ allFinite us
 unfolding allFinite
 near-finite none = refl
-near-finite (more p ps) = ap₂ _&&_ (ap₂ _&&_ (finite-≈ (p .coeff .re)) (finite-≈ (p .coeff .im))) (near-finite ps)
+near-finite (more p ps) = ap₂ _&&_ (finite-≈ (p .coeff)) (near-finite ps)
 
 module _ {e f : Float} (p : e ≈ f) where
   near-small : {t u : Term} → NearTerm t u → isSmall e t ≡ isSmall f u
@@ -162,4 +148,4 @@ module _ {e f : Float} (p : e ≈ f) where
   near-dropped = each-fold _≈_ (addDropped e) (addDropped f) (λ a b t u s q. cond-same _≈_ (near-small q) (add-≈ binary64 s (near-size (q .coeff))) s) same
 
 pub near-mean : (w : ℕ) {ts us : List Term} → Near ts us → meanOf w ts ≈ meanOf w us
-near-mean w = each-fold _≈_ (addMean w) (addMean w) (λ a b t u s q. cond-same _≈_ (ap (noX w) (q .key)) (add-≈ binary64 s (q .coeff .re)) s) same
+near-mean w = each-fold _≈_ (addMean w) (addMean w) (λ a b t u s q. cond-same _≈_ (ap (noX w) (q .key)) (add-≈ binary64 s (q .coeff)) s) same

@@ -1,7 +1,7 @@
 -- Each step takes lists of terms that agree up to the signs of zeros, and reals that do, to lists that do: a gate, a rotation, a channel. Assumes nothing.
 use mathlib.Core.Path.{_≡_, refl, ap, ap₂, subst}
 use Prim.Native.Nat.{ℕ}
-use mathlib.Core.Bool.{Bool, _||_}
+use mathlib.Core.Bool.{Bool, not, _||_}
 use mathlib.Core.List.{List, [], _∷_, map}
 use mathlib.Core.Option as O
 use lib.ListN.{getD}
@@ -13,19 +13,19 @@ use Rattle.numbers.proofs.CloseLaws.{add-≈, sub-≈, mul-≈, div-≈, is-zer
 use Rattle.words.specs.declared.Gate.{Gate}
 use Rattle.words.specs.Keys.{Key, flipAt, zAt, hasLetter, sameKey}
 use Rattle.words.specs.Gates.{bitsAt, conjKey, conjPhase}
-use Rattle.terms.specs.declared.Complex64.{Complex64}
 use Rattle.terms.specs.declared.NoiseChannel.{NoiseChannel}
 use Rattle.terms.specs.declared.NoiseChannel.the-variants.{Pauli, Depolarizing, AmplitudeDamping, PhaseDamping, ThermalRelaxation, TwoQubitDepolarizing}
 use Rattle.terms.specs.declared.ChannelKind.{ChannelKind}
 use Rattle.terms.specs.declared.ChannelKind.the-variants.{Local, Depolarizing2q}
 use Rattle.terms.specs.declared.ChannelAction.{ChannelAction}
-use Rattle.terms.specs.Term.{Term, find, isIn, addTo, conjugated}
+use Rattle.terms.specs.Coefficient.{negates}
+use Rattle.terms.specs.Term.{oddY, Term, find, isIn, addTo, conjugated}
 use Rattle.terms.specs.Rotation.{scaledMet, flippedTerm, turnedTerm, appendedTerm, turnedRow, appendedRows, rotated}
 use Rattle.terms.specs.Channel.{keepOf, pauliAction, depolAction, phaseAction, dampAction, thermalAction, depol2Action, actionOf, isZLetter, letterIndex}
 use Rattle.terms.specs.Channel.{insert, branch, withBranches, scaledLetter, scaledLocal, scaledEither, channelBy, channeled}
 use Rattle.terms.specs.Lists.{Each, none, more}
 use Rattle.terms.proofs.NearLaws.{each-map, each-append, each-fold, each-getD, cond-both, cond-same}
-use Rattle.terms.proofs.NearLaws.{NearC, near-scaled, near-flipped, near-plus, near-turned, NearTerm, at-key, by-key, Near}
+use Rattle.terms.proofs.NearLaws.{NearC, near-scaled, near-flipped, near-plus, near-signed, NearTerm, at-key, by-key, Near}
 use Rattle.terms.specs.Met.{gateTargets}
 use Rattle.terms.proofs.TargetLaws.{gate-by-targets}
 
@@ -34,7 +34,7 @@ use Rattle.terms.proofs.TargetLaws.{gate-by-targets}
 near-conjugated : (w : ℕ) (g : Gate) (a b : ℕ) {t u : Term} → NearTerm t u → NearTerm (conjugated w g a b t) (conjugated w g a b u)
 unfolding conjugated
 near-conjugated w g a b =
-    by-key (λ t u. NearTerm (conjugated w g a b t) (conjugated w g a b u)) (λ k c d p. at-key (conjKey g w a b k) (near-turned (conjPhase g (bitsAt w a b k)) p))
+    by-key (λ t u. NearTerm (conjugated w g a b t) (conjugated w g a b u)) (λ k c d p. at-key (conjKey g w a b k) (near-signed (negates g (bitsAt w a b k) (oddY w k)) p))
 
 -- with the same targets: a one-target gate's second number is none
 pub near-gate : (w : ℕ) (g : Gate) (a b c d : ℕ) {ts us : List Term} → gateTargets g a b ≡ gateTargets g c d → Near ts us
@@ -44,30 +44,31 @@ near-gate w g a b c d e = each-map (conjugated w g a b) (conjugated w g c d)
 
 -- ---- rotations
 
-data NearFound : O.Option Complex64 → O.Option Complex64 → Type 0 where
+data NearFound : O.Option Float → O.Option Float → Type 0 where
   absent : NearFound O.none O.none
-  found : {c d : Complex64} → NearC c d → NearFound (O.some c) (O.some d)
+  found : {c d : Float} → NearC c d → NearFound (O.some c) (O.some d)
 
 near-find : (k : Key) {ts us : List Term} → Near ts us → NearFound (find k ts) (find k us)
 unfolding find
 near-find k none = absent
 near-find k (more p ps) = cond-same NearFound (ap (sameKey k) (p .key)) (found (p .coeff)) (near-find k ps)
 
-module _ (met : Key → Bool) (partner : Key → Key) {sin sin' cos cos' : Float} (ps : sin ≈ sin') (pc : cos ≈ cos') where
-  near-scaledMet : (t u : Term) → NearTerm t u → NearTerm (scaledMet met partner sin cos t) (scaledMet met partner sin' cos' u)
-  near-scaledMet t u = by-key (λ t u. NearTerm (scaledMet met partner sin cos t) (scaledMet met partner sin' cos' u))
+module _ (w : ℕ) (met : Key → Bool) (partner : Key → Key) {sin sin' cos cos' : Float} (ps : sin ≈ sin') (pc : cos ≈ cos') where
+  near-scaledMet : (t u : Term) → NearTerm t u → NearTerm (scaledMet w met partner sin cos t) (scaledMet w met partner sin' cos' u)
+  near-scaledMet t u = by-key (λ t u. NearTerm (scaledMet w met partner sin cos t) (scaledMet w met partner sin' cos' u))
       (λ k c d p. cond-both NearTerm (met k) (at-key k (near-scaled pc p)) (at-key k p))
 
-  near-flippedTerm : {t u : Term} → NearTerm t u → NearTerm (flippedTerm met partner sin cos t) (flippedTerm met partner sin' cos' u)
-  near-flippedTerm p = record { key = ap partner (p .key); coeff = near-flipped ps (p .coeff) }
+  near-flippedTerm : {t u : Term} → NearTerm t u → NearTerm (flippedTerm w met partner sin cos t) (flippedTerm w met partner sin' cos' u)
+  near-flippedTerm = by-key (λ t u. NearTerm (flippedTerm w met partner sin cos t) (flippedTerm w met partner sin' cos' u)) (λ k c d p. at-key (partner k) (near-flipped (oddY w k) ps p))
 
-  near-turnedTerm : {f g : O.Option Complex64} {t u : Term} → NearFound f g → NearTerm t u
-      → NearTerm (turnedTerm met partner sin cos t f) (turnedTerm met partner sin' cos' u g)
+  near-turnedTerm : {f g : O.Option Float} {t u : Term} → NearFound f g → NearTerm t u
+      → NearTerm (turnedTerm w met partner sin cos t f) (turnedTerm w met partner sin' cos' u g)
   near-turnedTerm absent p = cond-same NearTerm (is-zero-≈ pc) (near-flippedTerm p) (record { key = p .key; coeff = near-scaled pc (p .coeff) })
-  near-turnedTerm (found q) p = record { key = p .key; coeff = near-plus (near-scaled pc (p .coeff)) (near-flipped ps q) }
+  near-turnedTerm (found {c = c} {d = d} q) p = by-key (λ t u. NearTerm (turnedTerm w met partner sin cos t (O.some c)) (turnedTerm w met partner sin' cos' u (O.some d)))
+      (λ k x y p. at-key k (near-plus (near-scaled pc p) (near-flipped (not (oddY w k)) ps q))) p
 
-  near-appendedTerm : {f g : O.Option Complex64} {t u : Term} → NearFound f g → NearTerm t u
-      → Near (appendedTerm met partner sin cos t f) (appendedTerm met partner sin' cos' u g)
+  near-appendedTerm : {f g : O.Option Float} {t u : Term} → NearFound f g → NearTerm t u
+      → Near (appendedTerm w met partner sin cos t f) (appendedTerm w met partner sin' cos' u g)
   near-appendedTerm absent p = cond-same Near (is-zero-≈ pc) none (more (near-flippedTerm p) none)
   near-appendedTerm (found q) p = none
 
@@ -75,19 +76,19 @@ module _ (met : Key → Bool) (partner : Key → Key) {sin sin' cos cos' : Float
     near-partner : {t u : Term} → NearTerm t u → NearFound (find (partner (t .key)) old) (find (partner (u .key)) old')
     near-partner = by-key (λ t u. NearFound (find (partner (t .key)) old) (find (partner (u .key)) old')) (λ k c d p. near-find (partner k) po)
 
-    near-turnedRow : (t u : Term) → NearTerm t u → NearTerm (turnedRow met partner sin cos old t) (turnedRow met partner sin' cos' old' u)
+    near-turnedRow : (t u : Term) → NearTerm t u → NearTerm (turnedRow w met partner sin cos old t) (turnedRow w met partner sin' cos' old' u)
     near-turnedRow t u p = cond-same NearTerm (ap met (p .key)) (near-turnedTerm (near-partner p) p) p
 
-    near-appendedRows : {ts us : List Term} → Near ts us → Near (appendedRows met partner sin cos old ts) (appendedRows met partner sin' cos' old' us)
+    near-appendedRows : {ts us : List Term} → Near ts us → Near (appendedRows w met partner sin cos old ts) (appendedRows w met partner sin' cos' old' us)
     unfolding appendedRows
     near-appendedRows none = none
     near-appendedRows (more p ps) = each-append (cond-same Near (ap met (p .key)) (near-appendedTerm (near-partner p) p) none) (near-appendedRows ps)
 
-  pub near-rotated : {ts us : List Term} → Near ts us → Near (rotated met partner sin cos ts) (rotated met partner sin' cos' us)
+  pub near-rotated : {ts us : List Term} → Near ts us → Near (rotated w met partner sin cos ts) (rotated w met partner sin' cos' us)
   unfolding rotated
   near-rotated {ts} {us} p =
-      cond-same Near (is-zero-≈ ps) (each-map (scaledMet met partner sin cos) (scaledMet met partner sin' cos') near-scaledMet p)
-      (each-append (each-map (turnedRow met partner sin cos ts) (turnedRow met partner sin' cos' us) (near-turnedRow p) p) (near-appendedRows p p))
+      cond-same Near (is-zero-≈ ps) (each-map (scaledMet w met partner sin cos) (scaledMet w met partner sin' cos') near-scaledMet p)
+      (each-append (each-map (turnedRow w met partner sin cos ts) (turnedRow w met partner sin' cos' us) (near-turnedRow p) p) (near-appendedRows p p))
 
 -- ---- channels
 
@@ -96,7 +97,7 @@ unfolding isIn
 near-isIn k none = refl
 near-isIn k (more p ps) = ap₂ _||_ (ap (sameKey k) (p .key)) (near-isIn k ps)
 
-near-addTo : (k : Key) {c d : Complex64} {ts us : List Term} → NearC c d → Near ts us → Near (addTo k c ts) (addTo k d us)
+near-addTo : (k : Key) {c d : Float} {ts us : List Term} → NearC c d → Near ts us → Near (addTo k c ts) (addTo k d us)
 unfolding addTo
 near-addTo k q none = none
 near-addTo k q (more p ps) =

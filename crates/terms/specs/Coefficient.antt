@@ -1,43 +1,62 @@
--- "A complex coefficient": by parts, each product and sum rounded once.
-use Prim.Native.Nat.{ℕ, _%_}
-use mathlib.Core.Bool.{Bool, cond, _&&_}
-use lib.Dec.{eqb}
+-- "A row shall store the other part alone": the real part of a coefficient where the Y letters of the word are even in number, else the
+-- imaginary part. Each product and sum is rounded once.
+use mathlib.Core.Bool.{Bool, true, false, cond, not, _&&_}
 use lib.Ieee.{Float, binary64, add, mul, neg}
-use Rattle.terms.specs.declared.Complex64.{Complex64}
-use Rattle.numbers.specs.Constants.{zero64}
-use Rattle.numbers.specs.Tests.{isZero, isFinite, absOf}
+use Rattle.numbers.specs.Tests.{isFinite, absOf}
+use Rattle.words.specs.declared.Bits as B
+use Rattle.words.specs.declared.Gate.{Gate}
+use Rattle.words.specs.declared.Gate.the-variants.{Id, X, Y, Z, H, S, Sdg, Sx, Sxdg, Cx, Cz, Swap}
+use Rattle.words.specs.Keys.{_⊕_}
 
--- "a record of two reals"
-abbrev pub complex : Float → Float → Complex64
-complex r i = record { re = r; im = i }
-
--- 0, from which merged coefficients are added
-abbrev pub none64 : Complex64
-none64 = complex zero64 zero64
+abbrev pub signed : Bool → Float → Float
+signed b v = cond b (neg v) v
 
 -- c × f
-abbrev pub scaledOf : Float → Complex64 → Complex64
-scaledOf f c = complex (mul binary64 (c .re) f) (mul binary64 (c .im) f)
+abbrev pub scaledOf : Float → Float → Float
+scaledOf f v = mul binary64 v f
 
--- "flip(c) = (im × sin, -(re × sin))"
-abbrev pub flippedOf : Float → Complex64 → Complex64
-flippedOf s c = complex (mul binary64 (c .im) s) (neg (mul binary64 (c .re) s))
+abbrev pub plusOf : Float → Float → Float
+plusOf v u = add binary64 v u
 
--- by parts
-abbrev pub plusOf : Complex64 → Complex64 → Complex64
-plusOf c d = complex (add binary64 (c .re) (d .re)) (add binary64 (c .im) (d .im))
+-- "flip(c) = (im × sin, -(re × sin))", of a word whose Y letters are odd in number, or even
+abbrev pub flippedOf : Bool → Float → Float → Float
+flippedOf odd s v = signed (not odd) (mul binary64 v s)
 
--- c times i to the power k: exact, it swaps and negates parts
-unfoldable pub turnedOf : ℕ → Complex64 → Complex64
-turnedOf k c =
-    cond (eqb (k % 4) 1) (complex (neg (c .im)) (c .re))
-    (cond (eqb (k % 4) 2) (complex (neg (c .re)) (neg (c .im)))
-    (cond (eqb (k % 4) 3) (complex (c .im) (neg (c .re))) c))
+-- Whether a gate negates the number, by the bits at its targets before it. s, sdg, sx and sxdg change the parity of the Y letters, and only
+-- they ask for it, of the whole word.
+abbrev pub negates : Gate → B.Bits → Bool → Bool
+negates Cx s odd = false
+negates H s odd = s .xa && s .za
+negates S s odd = s .xa && not odd
+negates Sdg s odd = s .xa && odd
+negates Sx s odd = s .za && odd
+negates Sxdg s odd = s .za && not odd
+negates Id s odd = false
+negates X s odd = s .za
+negates Y s odd = s .xa ⊕ s .za
+negates Z s odd = s .xa
+negates Cz s odd = s .xa && s .xb
+negates Swap s odd = false
 
--- "one part is always 0; the size is the other's absolute value"
-unfoldable pub sizeOf : Complex64 → Float
-sizeOf c = cond (isZero (c .re)) (absOf (c .im)) (absOf (c .re))
+-- the gates whose sign is not settled by the bits at their targets
+abbrev pub asksWord : Gate → Bool
+asksWord Cx = false
+asksWord H = false
+asksWord S = true
+asksWord Sdg = true
+asksWord Sx = true
+asksWord Sxdg = true
+asksWord Id = false
+asksWord X = false
+asksWord Y = false
+asksWord Z = false
+asksWord Cz = false
+asksWord Swap = false
+
+-- "the size is the other's absolute value"
+abbrev pub sizeOf : Float → Float
+sizeOf v = absOf v
 
 -- "Is every coefficient finite?"
-abbrev pub finiteOf : Complex64 → Bool
-finiteOf c = isFinite (c .re) && isFinite (c .im)
+abbrev pub finiteOf : Float → Bool
+finiteOf v = isFinite v

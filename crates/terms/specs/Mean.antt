@@ -9,7 +9,7 @@ use Rattle.terms.specs.Lists.{foldl}
 use Rattle.terms.specs.Term.{Term}
 
 abbrev pub addMean : ℕ → Float → Term → Float
-addMean w s t = cond (noX w (t .key)) (add binary64 s (t .coeff .re)) s
+addMean w s t = cond (noX w (t .key)) (add binary64 s (t .coeff)) s
 
 abbrev pub meanOf : ℕ → List Term → Float
 meanOf w ts = foldl (addMean w) zero64 ts

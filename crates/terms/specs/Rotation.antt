@@ -1,17 +1,17 @@
--- "Rotation": t, tdg, rz, p and rzz. A run keeps the keys of its terms distinct, so a term has at most one partner.
+-- "Rotation": t, tdg, rz, p and rzz. The partner of a met word has one Y letter more or less, so one parity, that of the row's own word,
+-- gives the sign of the flip that it sends and of the one that it takes in.
 use Prim.Native.Nat.{ℕ, _*_}
+use lib.Dec.{ltb, eqb}
 use mathlib.Core.Bool.{Bool, cond, not, _&&_}
 use mathlib.Core.List.{List, [], _∷_, _++_, map}
 use mathlib.Core.Option.{Option, none, some}
-use lib.Dec.{ltb, eqb}
 use lib.Ieee.{Float}
 use Rattle.numbers.specs.Tests.{isZero}
 use Rattle.words.specs.Keys.{Key, _⊕_, bitAt, flipAt, zAt}
-use Rattle.terms.specs.declared.Complex64.{Complex64}
 use Rattle.terms.specs.declared.Axis.{Axis}
 use Rattle.terms.specs.declared.Axis.the-variants.{Z, Zz}
-use Rattle.terms.specs.Coefficient.{scaledOf, flippedOf, plusOf}
-use Rattle.terms.specs.Term.{Term, term, find}
+use Rattle.terms.specs.Coefficient.{scaledOf, plusOf, flippedOf}
+use Rattle.terms.specs.Term.{Term, term, find, oddY}
 
 -- "A term is met if x is set at the target; for rzz, at exactly one target"
 unfoldable pub metBy : Axis → Key → Bool
@@ -28,27 +28,25 @@ abbrev pub onKey : ℕ → Axis → Bool
 onKey w (Z q) = ltb q (64 * w)
 onKey w (Zz a b) = ltb a (64 * w) && (ltb b (64 * w) && not (eqb a b))
 
--- "c × cos + flip(partner)"
-abbrev pub mixed : Float → Float → Complex64 → Complex64 → Complex64
-mixed sin cos c d = plusOf (scaledOf cos c) (flippedOf sin d)
+-- "c × cos + flip(partner)"; odd is the parity of c's word
+abbrev pub mixed : Bool → Float → Float → Float → Float → Float
+mixed odd sin cos v u = plusOf (scaledOf cos v) (flippedOf (not odd) sin u)
 
-module _ (met : Key → Bool) (partner : Key → Key) (sin cos : Float) where
+module _ (w : ℕ) (met : Key → Bool) (partner : Key → Key) (sin cos : Float) where
   -- "Sine equal to 0: met terms times cosine"
   abbrev pub scaledMet : Term → Term
   scaledMet t = cond (met (t .key)) (term (t .key) (scaledOf cos (t .coeff))) t
 
   -- the partner's word with flip(c)
   abbrev pub flippedTerm : Term → Term
-  flippedTerm t = term (partner (t .key)) (flippedOf sin (t .coeff))
+  flippedTerm t = term (partner (t .key)) (flippedOf (oddY w (t .key)) sin (t .coeff))
 
-  -- what becomes of a met term, by its partner's old coefficient
-  abbrev pub turnedTerm : Term → Option Complex64 → Term
-  turnedTerm t (some d) = term (t .key) (mixed sin cos (t .coeff) d)
-  -- "rewritten as the partner's word with flip(c) if cosine equals 0, else its coefficient is scaled by the cosine"
+  -- what becomes of a met term, by its partner's old number
+  abbrev pub turnedTerm : Term → Option Float → Term
+  turnedTerm t (some d) = term (t .key) (mixed (oddY w (t .key)) sin cos (t .coeff) d)
   turnedTerm t none = cond (isZero cos) (flippedTerm t) (term (t .key) (scaledOf cos (t .coeff)))
 
-  -- "and the partner's word with flip(c) is appended"
-  abbrev pub appendedTerm : Term → Option Complex64 → List Term
+  abbrev pub appendedTerm : Term → Option Float → List Term
   appendedTerm t (some d) = []
   appendedTerm t none = cond (isZero cos) [] (flippedTerm t ∷ [])
 

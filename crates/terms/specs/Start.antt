@@ -1,34 +1,27 @@
 -- The terms with which a run starts, from the words and weights of the `term` lines.
-use Prim.Native.Nat.{ℕ, zero, suc, _+_, _*_}
-use mathlib.Core.Bool.{cond, _&&_}
+use Prim.Native.Nat.{ℕ, _%_}
+use mathlib.Core.Bool.{cond, not}
 use mathlib.Core.List.{List, [], _∷_, _++_}
+use lib.Dec.{ltb}
 use lib.Ieee.{Float}
 use Rattle.numbers.specs.Constants.{zero64}
-use Rattle.words.specs.Keys.{Key, bitAt, zAt}
-use Rattle.terms.specs.Coefficient.{complex, none64, turnedOf}
+use Rattle.words.specs.Keys.{Key}
 use Rattle.terms.specs.Lists.{foldl}
+unfoldable pub use Rattle.terms.specs.Letters.{countY, ysOf}
+use Rattle.terms.specs.Coefficient.{signed}
 use Rattle.terms.specs.Term.{Term, term, isIn, addTo}
 
--- how many of the first n qubits have the letter Y: both bits set
-unfoldable pub countY : ℕ → ℕ → Key → ℕ
-countY w zero k = 0
-countY w (suc n) k = cond (bitAt k n && bitAt k (zAt w n)) 1 0 + countY w n k
-
-abbrev pub ysOf : ℕ → Key → ℕ
-ysOf w k = countY w (64 * w) k
-
--- "Y sets both and multiplies by i": the term of a line with the word k
+-- "Y sets both and multiplies by i": two Y letters, or three, make a minus sign
 unfoldable pub termOf : ℕ → Key → Float → Term
-termOf w k weight = term k (turnedOf (ysOf w k) (complex weight zero64))
+termOf w k weight = term k (signed (ltb 1 (ysOf w k % 4)) weight)
 
 -- "equal words share a row, in order of first line, their coefficients added from 0 in line order"
 unfoldable pub share : List Term → Term → List Term
-share ts t = addTo (t .key) (t .coeff) (cond (isIn (t .key) ts) ts (ts ++ (term (t .key) none64 ∷ [])))
+share ts t = addTo (t .key) (t .coeff) (cond (isIn (t .key) ts) ts (ts ++ (term (t .key) zero64 ∷ [])))
 
 abbrev pub coalesced : List Term → List Term
 coalesced ts = foldl share [] ts
 
--- "Two or more `term` lines are merged at the start"
 abbrev pub merged : List Term → List Term
 merged [] = []
 merged (t ∷ []) = t ∷ []

@@ -1,12 +1,7 @@
-// Terms of a weighted Pauli sum: the complex coefficient, and what a noise channel does to the letters of a word.
+// Terms of a weighted Pauli sum: the one real of a coefficient, the parity of a word, and what a noise channel does to the letters of a word.
 pub mod channels;
-pub mod coefficient;
-
-// A coefficient.
-pub struct Complex64 {
-    pub re: f64,
-    pub im: f64,
-}
+pub mod number;
+pub mod parity;
 
 // What a search over rows finds.
 pub enum Found {

@@ -45,7 +45,7 @@ module _ (w : ℕ) where
   -- ---- ops that agree
 
   near-turned : (x : Axis) {s c s' c' : Float} {ts us : List Term} → s ≈ s' → c ≈ c' → Near ts us → Near (turned w x s c ts) (turned w x s' c' us)
-  near-turned x p q = near-rotated (metBy x) (partnerBy w x) p q
+  near-turned x p q = near-rotated w (metBy x) (partnerBy w x) p q
 
   near-noisy : (a b : ℕ) {c d : NoiseChannel} {ts us : List Term} → NearChannel c d → Near ts us → Near (noisy w a b c ts) (noisy w a b d us)
   near-noisy a b p = near-channeled w a b (near-action p)

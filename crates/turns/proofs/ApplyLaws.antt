@@ -139,7 +139,7 @@ module _ (w : ℕ) (ts : List Term) where
 
   pub act-count : (op : Op) → length (act w op ts) ≤ 2 * length ts
   act-count op = acts (λ us. length us ≤ 2 * length ts) (λ g a b t. rw length-map (omega arith))
-      (λ x sin cos. rotated-count (metBy x) (partnerBy w x) sin cos ts) (λ a b c. channeled-count w a b (actionOf c) ts) (omega arith) op
+      (λ x sin cos. rotated-count w (metBy x) (partnerBy w x) sin cos ts) (λ a b c. channeled-count w a b (actionOf c) ts) (omega arith) op
 
 -- ---- the rows after each kind of op
 
@@ -186,7 +186,7 @@ module _ (w n : ℕ) (ws : List ℕ) (cs : List Float) where
           → (r .met ≡ metIn w (axisTargets x) n ws cs) × Rotated w n x sin cos (r .count) ws ws′ cs cs′
           → Applied w n (axisTargets x) (turned w x sin cos here) r ws ws′ cs cs′
       axis-applied x sin cos on key d R = grown (axisTargets x) _ on (axis-words w x on) (R .0) (R .1 .from-old key d)
-          (let c = rotated-count (metBy x) (partnerBy w x) sin cos here in omega (arith, long, c)) (axis-width w x sin cos here here-width)
+          (let c = rotated-count w (metBy x) (partnerBy w x) sin cos here in omega (arith, long, c)) (axis-width w x sin cos here here-width)
 
       pub channel-applied : (k : ChannelKind) (a b : ℕ) (c : NoiseChannel) (t : ChannelAction) → actionOf c .kind ≡ k → let qs = kindTargets k a b in onWords w qs ≡ true → t ≡ actionOf c
           → (r .met ≡ metIn w (kindTargets (t .kind) a b) n ws cs) × Grown w n (channeled w a b t here) (r .count) ws ws′ cs cs′

@@ -1,37 +1,31 @@
 -- What is finite was made from what is finite: a sum with a coefficient that is not finite keeps one through every op, and through the drop of
 -- small terms. Assumes nothing.
-use Prim.Native.Nat.{ℕ, zero, suc, _%_}
-use mathlib.Core.Path.{_≡_, refl, sym, ap, ap₂, _∙_}
-use mathlib.Core.Bool.{Bool, true, false, cond, _&&_, _||_, false≢true}
+use Prim.Native.Nat.{ℕ, zero, suc}
+use mathlib.Core.Path.{_≡_, refl, sym, ap₂, _∙_}
+use mathlib.Core.Bool.{Bool, true, false, cond, not, _&&_, _||_}
 use mathlib.Core.List.{List, [], _∷_, _++_, map}
-use lib.Dec.{eqb, eqb·suc-zero}
+use lib.Dec.{eqb·suc-zero}
 use lib.ListN.{getD}
-use lib.Ieee.{Float, nan, inf, fin, binary64, neg, add, mul, lt, eq, ofBits}
-use Rattle.numbers.specs.Close.{_≈_}
-use Rattle.numbers.specs.Constants.{zero64, sineT, cosineT}
+use lib.Ieee.{Float, nan, inf, fin, binary64, neg, add, mul, lt}
+use Rattle.numbers.specs.Constants.{sineT, cosineT}
 use Rattle.numbers.specs.Tests.{isFinite, isZero, absOf}
-use Rattle.numbers.proofs.CloseLaws.{finite-≈}
 use Rattle.words.specs.Keys.{Key, hasLetter, sameKey}
-use Rattle.words.specs.Gates.{bitsAt, conjPhase}
+use Rattle.words.specs.Gates.{bitsAt}
 use Rattle.words.specs.declared.Gate.{Gate}
 use Rattle.terms.specs.declared.Axis.{Axis}
 use Rattle.terms.specs.declared.Axis.the-variants.{Z, Zz}
-use Rattle.terms.specs.declared.Complex64.{Complex64}
 use Rattle.terms.specs.declared.ChannelAction.{ChannelAction}
 use Rattle.terms.specs.declared.ChannelKind.{ChannelKind}
 use Rattle.terms.specs.declared.ChannelKind.the-variants.{Local, Depolarizing2q}
 use Rattle.terms.specs.declared.NoiseChannel.{NoiseChannel}
 use Rattle.terms.specs.declared.NoiseChannel.the-variants as N
-use Rattle.terms.specs.Lists.{All, foldl}
-use Rattle.terms.specs.Coefficient.{complex, scaledOf, flippedOf, plusOf, turnedOf, sizeOf, finiteOf}
-use Rattle.terms.specs.Term.{Term, term, isIn, addTo, conjugated, allFinite}
-use Rattle.terms.specs.Start.{ysOf}
+use Rattle.terms.specs.Lists.{foldl}
+use Rattle.terms.specs.Coefficient.{signed, scaledOf, flippedOf, plusOf, negates, finiteOf}
+use Rattle.terms.specs.Term.{Term, term, oddY, isIn, addTo, conjugated, allFinite}
 use Rattle.terms.specs.Rotation.{metBy, partnerBy, scaledMet, flippedTerm, mixed, turnedRow, appendedRows, rotated}
 use Rattle.terms.specs.Channel.{actionOf, isZLetter, letterIndex, insert, branch, withBranches, scaledLetter, scaledLocal, scaledEither, channelBy, channeled}
 use Rattle.terms.specs.Truncation.{isSmall, keptOf}
-use Rattle.terms.specs.Parity.{isOdd, Parted}
 use Rattle.terms.proofs.CaseLaws.{and-true, cond-cases}
-use Rattle.terms.proofs.ParityLaws.{zero-passes}
 use Rattle.terms.proofs.StepLaws.{row-cases}
 use Rattle.turns.specs.declared.Op.{Op}
 use Rattle.turns.specs.declared.Op.the-variants.{Native, T, Tdg, Rz, P, Rzz}
@@ -66,7 +60,7 @@ finite-add (inf false) (inf false) h = h
 finite-add (inf s) (fin t m e) h = h
 finite-add (fin s m e) y h = refl
 
--- a number whose size is below another, or that is a zero
+-- a number whose size is below another
 finite-below : (x e : Float) → lt (absOf x) e ≡ true → isFinite x ≡ true
 unfolding lt
 finite-below nan e h = h
@@ -76,46 +70,20 @@ finite-below (inf s) (inf false) h = h
 finite-below (inf s) (fin t m d) h = h
 finite-below (fin s m d) e h = refl
 
-finite-zero : (x : Float) → isZero x ≡ true → isFinite x ≡ true
-unfolding eq ofBits
-finite-zero nan h = h
-finite-zero (inf s) h = h
-finite-zero (fin s m e) h = refl
+-- ---- what a step makes of a number
 
-finite-close : {x : Float} → x ≈ zero64 → isFinite x ≡ true
-unfolding ofBits
-finite-close p = finite-≈ p
+finite-signed : (b : Bool) (v : Float) → isFinite (signed b v) ≡ true → isFinite v ≡ true
+finite-signed true v h = sym (finite-neg v) ∙ h
+finite-signed false v h = h
 
--- ---- coefficients
+finite-plus : (c d : Float) → finiteOf (plusOf c d) ≡ true → finiteOf c ≡ true
+finite-plus c d = finite-add c d
 
-finite-parts : (c : Complex64) → finiteOf c ≡ true → (isFinite (c .re) ≡ true) × (isFinite (c .im) ≡ true)
-finite-parts c h = and-true (isFinite (c .re)) (isFinite (c .im)) h
+finite-scaled : (f c : Float) → finiteOf (scaledOf f c) ≡ true → finiteOf c ≡ true
+finite-scaled f c = finite-mul c f
 
-finite-plus : (c d : Complex64) → finiteOf (plusOf c d) ≡ true → finiteOf c ≡ true
-finite-plus c d h = let p = finite-parts (plusOf c d) h in ap₂ _&&_ (finite-add (c .re) (d .re) (p .0)) (finite-add (c .im) (d .im) (p .1))
-
-finite-scaled : (f : Float) (c : Complex64) → finiteOf (scaledOf f c) ≡ true → finiteOf c ≡ true
-finite-scaled f c h = let p = finite-parts (scaledOf f c) h in ap₂ _&&_ (finite-mul (c .re) f (p .0)) (finite-mul (c .im) f (p .1))
-
-finite-flipped : (s : Float) (c : Complex64) → finiteOf (flippedOf s c) ≡ true → finiteOf c ≡ true
-finite-flipped s c h =
-    let p = finite-parts (flippedOf s c) h in
-    ap₂ _&&_ (finite-mul (c .re) s (sym (finite-neg (mul binary64 (c .re) s)) ∙ p .1)) (finite-mul (c .im) s (p .0))
-
-finite-turned : (k : ℕ) (c : Complex64) → finiteOf (turnedOf k c) ≡ true → finiteOf c ≡ true
-unfolding turnedOf
-finite-turned k c = go (eqb (k % 4) 1) (eqb (k % 4) 2) (eqb (k % 4) 3)
-  where
-    n : (x : Float) → isFinite (neg x) ≡ true → isFinite x ≡ true
-    n x h = sym (finite-neg x) ∙ h
-
-    go : (a b d : Bool)
-        → finiteOf (cond a (complex (neg (c .im)) (c .re)) (cond b (complex (neg (c .re)) (neg (c .im))) (cond d (complex (c .im) (neg (c .re))) c))) ≡ true
-        → finiteOf c ≡ true
-    go true b d h = let p = finite-parts (complex (neg (c .im)) (c .re)) h in ap₂ _&&_ (p .1) (n (c .im) (p .0))
-    go false true d h = let p = finite-parts (complex (neg (c .re)) (neg (c .im))) h in ap₂ _&&_ (n (c .re) (p .0)) (n (c .im) (p .1))
-    go false false true h = let p = finite-parts (complex (c .im) (neg (c .re))) h in ap₂ _&&_ (n (c .re) (p .1)) (p .0)
-    go false false false h = h
+finite-flipped : (odd : Bool) (s c : Float) → finiteOf (flippedOf odd s c) ≡ true → finiteOf c ≡ true
+finite-flipped odd s c h = finite-mul c s (finite-signed (not odd) (mul binary64 c s) h)
 
 -- ---- lists of terms
 
@@ -136,7 +104,7 @@ append-finite (t ∷ ts) us e =
     let p = and-true (finiteOf (t .coeff)) (allFinite (ts ++ us)) e in
     ap₂ _&&_ (p .0) (append-finite ts us (p .1))
 
-addTo-finite : (k : Key) (d : Complex64) (ts : List Term) → allFinite (addTo k d ts) ≡ true → allFinite ts ≡ true
+addTo-finite : (k : Key) (d : Float) (ts : List Term) → allFinite (addTo k d ts) ≡ true → allFinite ts ≡ true
 unfolding allFinite addTo
 addTo-finite k d [] e = refl
 addTo-finite k d (t ∷ ts) e = go (sameKey k (t .key)) e (addTo-finite k d ts)
@@ -161,18 +129,18 @@ fold-finite f h (u ∷ us) ts e = h ts u (fold-finite f h us (f ts u) e)
 
 gate-finite : (w : ℕ) (g : Gate) (a b : ℕ) (ts : List Term) → allFinite (map (conjugated w g a b) ts) ≡ true → allFinite ts ≡ true
 unfolding conjugated
-gate-finite w g a b = map-finite (conjugated w g a b) (λ t. finite-turned (conjPhase g (bitsAt w a b (t .key))) (t .coeff))
+gate-finite w g a b = map-finite (conjugated w g a b) (λ t. finite-signed (negates g (bitsAt w a b (t .key)) (oddY w (t .key))) (t .coeff))
 
-rotated-finite : (met : Key → Bool) (partner : Key → Key) (sin cos : Float) (ts : List Term) → allFinite (rotated met partner sin cos ts) ≡ true → allFinite ts ≡ true
+rotated-finite : (w : ℕ) (met : Key → Bool) (partner : Key → Key) (sin cos : Float) (ts : List Term) → allFinite (rotated w met partner sin cos ts) ≡ true → allFinite ts ≡ true
 unfolding rotated
-rotated-finite met partner sin cos ts = cond-cases (λ us. allFinite us ≡ true → allFinite ts ≡ true) (isZero sin)
-    (λ b. map-finite (scaledMet met partner sin cos) (λ t. cond-cases (λ u. Fine u → Fine t) (met (t .key)) (λ m. finite-scaled cos (t .coeff)) (λ m h. h)) ts)
-    (λ b h. map-finite (turnedRow met partner sin cos ts) row ts (append-finite (map (turnedRow met partner sin cos ts) ts) (appendedRows met partner sin cos ts ts) h))
+rotated-finite w met partner sin cos ts = cond-cases (λ us. allFinite us ≡ true → allFinite ts ≡ true) (isZero sin)
+    (λ b. map-finite (scaledMet w met partner sin cos) (λ t. cond-cases (λ u. Fine u → Fine t) (met (t .key)) (λ m. finite-scaled cos (t .coeff)) (λ m h. h)) ts)
+    (λ b h. map-finite (turnedRow w met partner sin cos ts) row ts (append-finite (map (turnedRow w met partner sin cos ts) ts) (appendedRows w met partner sin cos ts ts) h))
   where
-    row : (t : Term) → Fine (turnedRow met partner sin cos ts t) → Fine t
-    row t = row-cases met partner sin cos ts t (λ u l. Fine u → Fine t) (λ m h. h)
-        (λ d m e h. finite-scaled cos (t .coeff) (finite-plus (scaledOf cos (t .coeff)) (flippedOf sin d) h))
-        (λ m e z. finite-flipped sin (t .coeff)) (λ m e z. finite-scaled cos (t .coeff))
+    row : (t : Term) → Fine (turnedRow w met partner sin cos ts t) → Fine t
+    row t = row-cases w met partner sin cos ts t (λ u l. Fine u → Fine t) (λ m h. h)
+        (λ d m e h. finite-scaled cos (t .coeff) (finite-plus (scaledOf cos (t .coeff)) (flippedOf (not (oddY w (t .key))) sin d) h))
+        (λ m e z. finite-flipped (oddY w (t .key)) sin (t .coeff)) (λ m e z. finite-scaled cos (t .coeff))
 
 channeled-finite : (w a b : ℕ) (c : ChannelAction) (ts : List Term) → allFinite (channeled w a b c ts) ≡ true → allFinite ts ≡ true
 unfolding channeled scaledLocal
@@ -194,7 +162,7 @@ channeled-finite w a b c ts = go (c .kind)
 
 module _ (w : ℕ) where
   turned-finite : (x : Axis) (s c : Float) (ts : List Term) → allFinite (turned w x s c ts) ≡ true → allFinite ts ≡ true
-  turned-finite x s c = rotated-finite (metBy x) (partnerBy w x) s c
+  turned-finite x s c = rotated-finite w (metBy x) (partnerBy w x) s c
 
   noisy-finite : (a b : ℕ) (c : NoiseChannel) (ts : List Term) → allFinite (noisy w a b c ts) ≡ true → allFinite ts ≡ true
   noisy-finite a b c = channeled-finite w a b (actionOf c)
@@ -221,27 +189,15 @@ module _ (w : ℕ) where
 
   -- ---- the drop: what is small is finite
 
-  small-finite : (e : Float) (t : Term) → Parted w t → isSmall e t ≡ true → Fine t
-  unfolding sizeOf
-  small-finite e t = go (isOdd (ysOf w (t .key)))
-    where
-      c : Complex64
-      c = t .coeff
+  small-finite : (e : Float) (t : Term) → isSmall e t ≡ true → Fine t
+  small-finite e t = finite-below (t .coeff) e
 
-      sized : (b : Bool) → isZero (c .re) ≡ b → lt (cond b (absOf (c .im)) (absOf (c .re))) e ≡ true → isFinite (c .re) ≡ true
-      sized true z h = finite-zero (c .re) z
-      sized false z h = finite-below (c .re) e h
-
-      go : (odd : Bool) → cond odd (c .re) (c .im) ≈ zero64 → lt (cond (isZero (c .re)) (absOf (c .im)) (absOf (c .re))) e ≡ true → finiteOf c ≡ true
-      go true p h = ap₂ _&&_ (finite-close p) (finite-below (c .im) e (ap (λ (b : Bool). lt (cond b (absOf (c .im)) (absOf (c .re))) e) (sym (zero-passes p)) ∙ h))
-      go false p h = ap₂ _&&_ (sized (isZero (c .re)) refl h) (finite-close p)
-
-  pub kept-finite : (e : Float) (ts : List Term) → All (Parted w) ts → allFinite (keptOf e ts) ≡ true → allFinite ts ≡ true
+  pub kept-finite : (e : Float) (ts : List Term) → allFinite (keptOf e ts) ≡ true → allFinite ts ≡ true
   unfolding allFinite keptOf
-  kept-finite e [] p h = refl
-  kept-finite e (t ∷ ts) p h = go (isSmall e t) refl h (kept-finite e ts (p .1))
+  kept-finite e [] h = refl
+  kept-finite e (t ∷ ts) h = go (isSmall e t) refl h (kept-finite e ts)
     where
       go : (b : Bool) → isSmall e t ≡ b → allFinite (cond b (keptOf e ts) (t ∷ keptOf e ts)) ≡ true → (allFinite (keptOf e ts) ≡ true → allFinite ts ≡ true)
           → (finiteOf (t .coeff) && allFinite ts) ≡ true
-      go true s h r = ap₂ _&&_ (small-finite e t (p .0) s) (r h)
+      go true s h r = ap₂ _&&_ (small-finite e t s) (r h)
       go false s h r = let f = and-true (finiteOf (t .coeff)) (allFinite (keptOf e ts)) h in ap₂ _&&_ (f .0) (r (f .1))

@@ -11,4 +11,3 @@ pub mod FiniteLaws
 pub mod CountedRuns
 pub mod Alike
 pub mod Cone
-pub mod PartedRuns

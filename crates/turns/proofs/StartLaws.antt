@@ -139,7 +139,7 @@ one-apart t i j a b e = omega arith
 line-width : (w n : ℕ) (keys : List ℕ) → n ≤ length keys / (2 * w) → Words keys → (i : ℕ) → i < n → (x : Float) → OnWidth w (termOf w (keyAt (2 * w) keys i) x)
 unfolding termOf
 line-width w n keys h ok i b x =
-    let cs : List Float = replicate (2 * n) nan in
+    let cs : List Float = replicate n nan in
     let room : Room (2 * w) n keys cs = record { words-room = le-trans (mul-le-mul-right (2 * w) h) (div-mul-le-self (length keys) (2 * w)); coeffs-room = rw length-replicate (le-refl _) } in
     let all = terms-width w n keys cs room ok in
     let at : OnWidth w (termAt (2 * w) keys cs i) =

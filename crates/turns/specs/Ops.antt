@@ -71,7 +71,7 @@ tCount (op ∷ ops) = cond (isRotation (shapeOf op .sort)) 1 0 + tCount ops
 
 -- rz and p, t and tdg, rzz
 abbrev pub turned : ℕ → Axis → Float → Float → List Term → List Term
-turned w x sin cos ts = rotated (metBy x) (partnerBy w x) sin cos ts
+turned w x sin cos ts = rotated w (metBy x) (partnerBy w x) sin cos ts
 
 abbrev pub noisy : ℕ → ℕ → ℕ → NoiseChannel → List Term → List Term
 noisy w a b c ts = channeled w a b (actionOf c) ts

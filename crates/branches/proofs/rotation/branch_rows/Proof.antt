@@ -16,7 +16,7 @@ use Rattle.branches.proofs.rotation.branch_rows.Statement.{statement}
 use Rattle.branches.proofs.rotation.branch_rows.Tie as tie
 
 abbrev Inv-loop : tie.InvT-loop
-Inv-loop words₀ coeffs₀ index buckets w n axis sin cos m₀ i₀ words coeffs m i = (i ≤ n) × (n ≤ m) × (m ≤ n + i) × Holds (2 * w) m m (branchTo (metBy axis) (partnerBy w axis) sin cos n i (termsIn (2 * w) n words₀ coeffs₀)) words₀ words coeffs₀ coeffs
+Inv-loop words₀ coeffs₀ index buckets w n axis sin cos m₀ i₀ words coeffs m i = (i ≤ n) × (n ≤ m) × (m ≤ n + i) × Holds (2 * w) m m (branchTo w (metBy axis) (partnerBy w axis) sin cos n i (termsIn (2 * w) n words₀ coeffs₀)) words₀ words coeffs₀ coeffs
     × Tabled axis w words n i buckets index
 
 abbrev μ-loop : tie.MeasureT-loop
@@ -37,7 +37,7 @@ loop-again c = let s = c .before .before .before .before .before .before .before
       omega arith,
       omega arith,
       omega arith,
-      branch-turn (metBy (a .axis)) (partnerBy (a .w) (a .axis)) (a .sin) (a .cos) (a .n) (l .i) _ (l .inv .3) (e .0) (e .2),
+      branch-turn (a .w) (metBy (a .axis)) (partnerBy (a .w) (a .axis)) (a .sin) (a .cos) (a .n) (l .i) _ (l .inv .3) (e .0) (e .2),
       table-rotated (a .w) (a .axis) (a .sin) (a .cos) (a .n) (l .m) (l .i) _ (a .buckets) (now (a .index)) (l .words) _ (l .coeffs) _ (c .before .before .before .before .before .before .before .loop-test .taken) (l .inv .1) (e .0) (e .2) (l .inv .4),
     )
 

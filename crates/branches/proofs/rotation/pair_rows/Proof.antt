@@ -15,7 +15,7 @@ store-value-requires-2 c κs = let e = ap length (c .before .before .before .bef
 returns : tie.Need-returns
 returns c =
     let a = c .before .before .before .before .before .before .before .before .before .before .before .before .before .before .before .before .before .before .before .args in
-    pair-stores (a .sin) (a .cos) (a .i) (a .j) (now (a .coeffs)) (c .before .before .before .before .before .before .before .before .before .before .before .before .before .before .before .before .value-at .ensures) (c .before .before .before .before .before .before .before .before .before .before .before .before .before .before .value-at2 .ensures)
+    pair-stores (a .odd) (a .sin) (a .cos) (a .i) (a .j) (now (a .coeffs)) (c .before .before .before .before .before .before .before .before .before .before .before .before .before .before .before .before .value-at .ensures) (c .before .before .before .before .before .before .before .before .before .before .before .before .before .before .value-at2 .ensures)
     (c .before .before .before .before .before .before .before .before .before .before .before .before .scaled .ensures) (c .before .before .before .before .before .before .before .before .before .before .before .flipped .ensures) (c .before .before .before .before .before .before .before .before .before .before .plus .ensures) (c .before .before .before .before .before .before .before .before .before .store-value .ensures)
     (c .before .before .before .before .before .scaled2 .ensures) (c .before .before .before .before .flipped2 .ensures) (c .before .before .before .plus2 .ensures) (c .before .before .store-value2 .ensures)
 
@@ -23,5 +23,5 @@ pub pair-rows-spec : {M : Type 1} → statement M
 pair-rows-spec =
     tie.close
     (tie.spec
-    (λ c κs. search needs) (λ c κs. search needs) (λ c κs. search needs) (λ c κs. search needs) (λ c κs. search needs) (λ c κs. search needs)
+    (λ c κs. search needs) (λ c κs. search needs) (λ c κs. search needs) (λ c. search needs) (λ c κs. search needs) (λ c κs. search needs) (λ c κs. search needs)
     (λ c κs. search needs) (λ c κs. search needs) (λ c κs. search needs) store-value-requires-2 (λ c. search needs) returns)

@@ -11,12 +11,12 @@ use Rattle.branches.proofs.rotation.scale_row.Tie as tie
 returns : tie.Need-returns
 returns c = let m = c .before .before .before .before .before .before .before .before in
     let a = m .before .before .before .args in
-    scaled-met (metBy (a .axis)) (partnerBy (a .w) (a .axis)) (a .sin) (a .cos) (2 * a .w) (a .i) (now (a .words)) (now (a .coeffs))
+    scaled-met (a .w) (metBy (a .axis)) (partnerBy (a .w) (a .axis)) (a .sin) (a .cos) (2 * a .w) (a .i) (now (a .words)) (now (a .coeffs))
     (sym (m .row-met .ensures) ∙ c .before .before .before .before .before .before .before .if1 .taken) (c .before .before .before .before .before .value-at .ensures) (c .before .before .before .scaled .ensures) (c .before .before .store-value .ensures)
 
 returns-2 : tie.Need-returns-2
 returns-2 c = let a = c .before .before .before .before .args in
-    scaled-unmet (metBy (a .axis)) (partnerBy (a .w) (a .axis)) (a .sin) (a .cos) (2 * a .w) (a .i) (now (a .words)) (now (a .coeffs)) (sym (c .before .row-met .ensures) ∙ c .if1 .left)
+    scaled-unmet (a .w) (metBy (a .axis)) (partnerBy (a .w) (a .axis)) (a .sin) (a .cos) (2 * a .w) (a .i) (now (a .words)) (now (a .coeffs)) (sym (c .before .row-met .ensures) ∙ c .if1 .left)
 
 pub scale-row-spec : {M : Type 1} → statement M
 scale-row-spec =

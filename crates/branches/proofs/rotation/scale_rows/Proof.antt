@@ -14,7 +14,7 @@ use Rattle.branches.proofs.rotation.scale_rows.Statement.{statement}
 use Rattle.branches.proofs.rotation.scale_rows.Tie as tie
 
 abbrev Inv-loop : tie.InvT-loop
-Inv-loop words coeffs₀ w n axis sin cos i₀ coeffs i = (i ≤ n) × Holds (2 * w) n n (mapTo (scaledMet (metBy axis) (partnerBy w axis) sin cos) i (termsIn (2 * w) n words coeffs₀)) words words coeffs₀ coeffs
+Inv-loop words coeffs₀ w n axis sin cos i₀ coeffs i = (i ≤ n) × Holds (2 * w) n n (mapTo (scaledMet w (metBy axis) (partnerBy w axis) sin cos) i (termsIn (2 * w) n words coeffs₀)) words words coeffs₀ coeffs
 
 abbrev μ-loop : tie.MeasureT-loop
 μ-loop words coeffs₀ w n axis sin cos i₀ coeffs i = n - i
@@ -29,7 +29,7 @@ scale-row-requires c κs = let s = c .before .before in room-at (hold-room (s .l
 loop-again : tie.Need-loop-again Inv-loop μ-loop
 loop-again c = let s = c .before .before .before .before .before in
     let a = s .before .before .before .args in
-    (omega arith, hold-map (scaledMet (metBy (a .axis)) (partnerBy (a .w) (a .axis)) (a .sin) (a .cos)) (scaled-key (metBy (a .axis)) (partnerBy (a .w) (a .axis)) (a .sin) (a .cos)) (s .loop .i) _ (s .loop .inv .1) (s .before .before .before .pre) (le-refl (a .n)) (c .before .before .before .before .loop-test .taken) (c .before .before .scale-row .ensures))
+    (omega arith, hold-map (scaledMet (a .w) (metBy (a .axis)) (partnerBy (a .w) (a .axis)) (a .sin) (a .cos)) (scaled-key (a .w) (metBy (a .axis)) (partnerBy (a .w) (a .axis)) (a .sin) (a .cos)) (s .loop .i) _ (s .loop .inv .1) (s .before .before .before .pre) (le-refl (a .n)) (c .before .before .before .before .loop-test .taken) (c .before .before .scale-row .ensures))
 
 same-length : tie.Need-same-length Inv-loop μ-loop
 same-length c = c .before .loop .inv .1 .coeffs-long
@@ -37,7 +37,7 @@ same-length c = c .before .loop .inv .1 .coeffs-long
 returns : tie.Need-returns Inv-loop μ-loop
 returns c = let s = c .before in
     let a = s .before .before .before .args in
-    held-map (scaledMet (metBy (a .axis)) (partnerBy (a .w) (a .axis)) (a .sin) (a .cos)) (2 * a .w) (a .n) (a .n) (s .loop .i) (now (a .words)) (now (a .coeffs)) (s .loop .inv .1) (s .loop .inv .0) (c .loop-test .left)
+    held-map (scaledMet (a .w) (metBy (a .axis)) (partnerBy (a .w) (a .axis)) (a .sin) (a .cos)) (2 * a .w) (a .n) (a .n) (s .loop .i) (now (a .words)) (now (a .coeffs)) (s .loop .inv .1) (s .loop .inv .0) (c .loop-test .left)
 
 pub scale-rows-spec : {M : Type 1} → statement M
 scale-rows-spec =

@@ -31,7 +31,7 @@ returns : tie.Need-returns
 returns c =
     let a = c .before .before .before .before .before .before .before .before .before .before .before .before .before .before .args in
     line-row (a .w) (a .row) (a .line) (now (a .keys)) (a .weight) (now (a .words)) (now (a .coeffs))
-    (c .before .before .before .before .before .before .before .before .before .copy-line .ensures) (c .before .before .before .before .before .y-quarters .ensures) (c .before .before .before .turned .ensures) (c .before .before .store-value .ensures)
+    (c .before .before .before .before .before .before .before .before .before .copy-line .ensures) (c .before .before .before .before .before .y-quarters .ensures) (c .before .before .before .signed .ensures) (c .before .before .store-value .ensures)
 
 pub start-row-spec : {M : Type 1} → statement M
 start-row-spec =

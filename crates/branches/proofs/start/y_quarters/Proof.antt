@@ -5,7 +5,7 @@ use native.Mathlib.Omega.{arith}
 use denote.Ref.{now}
 use borrow.Author.Needs.{needs}
 use Rattle.terms.specs.Start.{countY}
-use Rattle.branches.proofs.YLaws.{no-ys, ys-whole}
+use Rattle.terms.proofs.OnesLaws.{no-ys, ys-whole}
 use Rattle.branches.proofs.start.y_quarters.Statement.{statement}
 use Rattle.branches.proofs.start.y_quarters.Tie as tie
 

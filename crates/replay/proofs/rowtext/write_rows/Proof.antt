@@ -13,7 +13,7 @@ abbrev μ-loop : tie.MeasureT-loop
 μ-loop out₀ at words coeffs w size n ws₀ cs₀ place₀ i₀ out ws cs place i = n - i
 
 loop-again : tie.Need-loop-again Inv-loop μ-loop
-loop-again c = let d = c .before .before .before .before in d .write-row .kept .0 ∙ d .before .before .before .before .before .before .loop .inv
+loop-again c = let d = c .before .before .before .before in d .write-row .kept .0 ∙ d .before .before .before .before .before .loop .inv
 
 pub write-rows-spec : {M : Type 1} → statement M
 write-rows-spec =
@@ -25,7 +25,6 @@ write-rows-spec =
     (λ c. search needs)
     (λ c κs. search needs)
     (λ c. refl)
-    (λ c κs. search needs)
     (λ c κs. search needs)
     (λ c κs. search needs)
     (λ c κs. search needs)

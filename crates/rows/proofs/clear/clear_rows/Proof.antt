@@ -16,5 +16,5 @@ clear-rows-spec =
     (λ c. let a = c .before .before .before .before .before .before .args in let r = clear-room (a .w) (a .from) (a .to) (now (a .words)) (now (a .coeffs)) (c .before .before .before .if1 .left) (c .before .before .rows-in .ensures) (c .before .if2 .left) in omega arith)
     (λ c. let a = c .before .before .before .before .before .before .args in let r = clear-room (a .w) (a .from) (a .to) (now (a .words)) (now (a .coeffs)) (c .before .before .before .if1 .left) (c .before .before .rows-in .ensures) (c .before .if2 .left) in omega arith)
     (λ c κs. let a = c .before .before .before .before .before .before .args in let r = clear-room (a .w) (a .from) (a .to) (now (a .words)) (now (a .coeffs)) (c .before .before .before .if1 .left) (c .before .before .rows-in .ensures) (c .before .if2 .left) in (omega arith, r .1))
-    (λ c. search needs) (λ c. search needs) (λ c κs. search needs) (λ c. search needs) (λ c. search needs)
+    (λ c κs. search needs) (λ c. search needs) (λ c. search needs)
     (λ c. cleared _ _ _ _ _ (c .before .before .before .before .before .before .before .before .before .before .if1 .left) (c .before .before .before .before .before .before .before .before .before .rows-in .ensures) (c .before .before .before .before .before .before .before .before .if2 .left) (c .before .before .before .before .before .before .clear-words .ensures) (c .before .before .clear-coeffs .ensures)))

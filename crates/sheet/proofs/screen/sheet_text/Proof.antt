@@ -10,7 +10,7 @@ use Rattle.sheet.proofs.screen.sheet_text.Statement.{statement}
 use Rattle.sheet.proofs.screen.sheet_text.Tie as tie
 
 returns : tie.Need-returns
-returns c = same-text (answer-printed (now (c .before .before .before .before .before .before .before .before .before .before .before .before .before .before .before .before .args .s)) _ (length-replicate {A = ℕ} 4096 0) (length-replicate {A = Float} 1024 zero64) (length-replicate {A = Float} 256 zero64) (c .before .before .before .before .before .before .before .before .before .answer .ensures)) (c .before .before .printed .ensures)
+returns c = same-text (answer-printed (now (c .before .before .before .before .before .before .before .before .before .before .before .before .before .before .before .before .args .s)) _ (length-replicate {A = ℕ} 4096 0) (length-replicate {A = Float} 512 zero64) (length-replicate {A = Float} 256 zero64) (c .before .before .before .before .before .before .before .before .before .answer .ensures)) (c .before .before .printed .ensures)
 
 pub sheet-text-spec : {M : Type 1} → statement M
 sheet-text-spec =

@@ -17,7 +17,7 @@ all-zero-requires : tie.Need-all-zero-requires
 all-zero-requires c κs = let s = c .before .before in let r = row-room (s .args .w) (s .args .i) (now (s .args .words)) (now (s .args .coeffs)) (s .pre) in omega arith
 
 returns : tie.Need-returns
-returns c = let a = c .before .before .before .before .before .before .args in mean-added (a .w) (a .i) (now (a .words)) (now (a .coeffs)) (a .sum) (c .before .before .before .all-zero .ensures) (c .before .before .if1 .taken) (c .before .value-at .ensures)
+returns c = let a = c .before .before .before .before .before .args in mean-added (a .w) (a .i) (now (a .words)) (now (a .coeffs)) (a .sum) (c .before .before .all-zero .ensures) (c .before .if1 .taken) (c .value-at .ensures)
 
 returns-2 : tie.Need-returns-2
 returns-2 c = let a = c .before .before .before .before .args in mean-passed (a .w) (a .i) (now (a .words)) (now (a .coeffs)) (a .sum) (c .before .all-zero .ensures) (c .if1 .left)

@@ -9,10 +9,10 @@ use Rattle.sums.proofs.mean.all_finite.Statement.{statement}
 use Rattle.sums.proofs.mean.all_finite.Tie as tie
 
 abbrev Inv-loop : tie.InvT-loop
-Inv-loop coeffs n end finite₀ i₀ finite i = (i ≤ 2 * n) × (finite ≡ numbersFinite i coeffs)
+Inv-loop coeffs n finite₀ i₀ finite i = (i ≤ n) × (finite ≡ numbersFinite i coeffs)
 
 abbrev μ-loop : tie.MeasureT-loop
-μ-loop coeffs n end finite₀ i₀ finite i = 2 * n - i
+μ-loop coeffs n finite₀ i₀ finite i = n - i
 
 returns : tie.Need-returns Inv-loop μ-loop
 returns c = sym (missing-finite (c .before .before .args .n) (now (c .before .before .args .coeffs)) (c .if1 .taken))
@@ -30,12 +30,12 @@ loop-again c =
 returns-2 : tie.Need-returns-2 Inv-loop μ-loop
 returns-2 c =
     let a = c .before .before .before .before .args in
-    let e : c .before .loop .i ≡ 2 * a .n = omega arith in
+    let e : c .before .loop .i ≡ a .n = omega arith in
     c .before .loop .inv .1 ∙ ap (λ (m : ℕ). numbersFinite m (now (a .coeffs))) e ∙ sym (finite-numbers (a .n) (now (a .coeffs)))
 
 pub all-finite-spec : {M : Type 1} → statement M
 all-finite-spec =
     tie.close
     (tie.spec
-    Inv-loop μ-loop returns (λ c. search needs) loop-holds (λ c. search needs) (λ c. search needs) (λ c κs. search needs) (λ c κs. search needs)
+    Inv-loop μ-loop returns loop-holds (λ c. search needs) (λ c. search needs) (λ c κs. search needs) (λ c κs. search needs)
     (λ c. search needs) (λ c. search needs) loop-again returns-2)

@@ -1,0 +1,1 @@
+// What is proved of the published runs of a sheet's bytes; no code.
