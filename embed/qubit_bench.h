@@ -46,7 +46,8 @@ extern "C" {
  *            they were. What the buffers hold beyond the last whole row is never touched.
  *
  * index      Work space in which equal words are found quickly. After 1 to 7 it is as it was, after a run all zeros.
- * index_len  Any number, 0 too. Shorter than QUBIT_BENCH_INDEX of the sheet's limit: slower, same answer.
+ * index_len  Any number, 0 too. Shorter than QUBIT_BENCH_INDEX of the sheet's limit: the same answer, but where it does not hold an entry for each term all rows
+ *            are searched for each row, so that time grows with the square of the terms (16,384 terms: 0.84 s, and 1 ms with an index).
  *
  * means      For `run=all`: after status 0 the mean of Z on each qubit, qubit 0 first; after 8 and 9 zero in these places. No place beyond the first
  *            `qubits` is touched, and none by other runs or after 1 to 7.

@@ -4,7 +4,7 @@
 Writes FOLDER/stdin, a stream of sheets, and FOLDER/stdout, the answers to them with their rows: first the fixed sheets of cases.py, then sheets of
 every kind that pass the questions, whose answers are prism-q's, then refused sheets, whose answers are document 01's as the oracle's own checker
 reads it. prism-q does not count the terms that an op met: the lines `touched=` are those of reading.py, which must agree in all other lines. These are at most 2,000,000 bytes. After them come the sheets of the requests of document 02 (`CHANGED` of cases.py), so that a new request
-alters none of the sheets before its own; the program takes 2,097,152 bytes in all.
+alters none of the sheets before its own, and last the samples of sheets/; the program takes 2,097,152 bytes in all.
 """
 
 import io
@@ -34,6 +34,13 @@ def chosen():
     yield from (s for s in generated("--seed", "2", "--count", "2000", "--refused") if len(s) <= 1200)
 
 
+def samples():
+    """The sheets of the folder sheets/, by name."""
+    folder = os.path.join(os.path.dirname(HERE), "sheets")
+    names = sorted(name for name in os.listdir(folder) if name.endswith(".sheet"))
+    return [open(os.path.join(folder, name), "rb").read() for name in names]
+
+
 def answers(command, data):
     out = subprocess.run(command, input=data, stdout=subprocess.PIPE, check=True).stdout.decode("ascii")
     return [line for line in out.splitlines() if line.startswith("#sheet ") or not line.startswith("#")]
@@ -47,7 +54,7 @@ def main():
         if len(data) + len(piece) <= MOST:
             data += piece
             count += 1
-    for _, sheet, _ in cases.CHANGED:
+    for sheet in [sheet for _, sheet, _ in cases.CHANGED] + samples():
         data += b"#sheet %d\n" % len(sheet) + sheet
         count += 1
     if len(data) > ALL:

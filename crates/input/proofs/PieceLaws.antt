@@ -1,38 +1,54 @@
--- What one read leaves in a part of the buffer, and a turn of the reading loop. Assumes nothing.
-use mathlib.Core.Path.{_≡_, ap, sym, _∙_, subst}
+-- Where reading goes on, and that it ends within the buffer. Assumes nothing.
+use mathlib.Core.Path.{_≡_, refl, ap, sym, _∙_, subst}
+use mathlib.Core.Bool.{Bool, true, false, cond, true≢false}
 use Prim.Native.Nat.{ℕ, _+_, _-_, _≤_, _<_}
 use native.Mathlib.Omega.{arith}
+use borrow.Author.Tests.{eqb-false, ltb-true, ltb-false, eq-eqb, ne-eqb}
 use mathlib.Core.List.{List, _++_}
-use lib.ListN.{length, take, drop, length-drop}
+use lib.Dec.{T, eqb, ltb}
+use lib.Signed.{ltZ, nonNeg}
+use lib.IntN.{ℤ, pos, negsuc, natAbs}
+use lib.ListN.{length, take}
 use lib.Seq.{length-take-le, take-append-seam}
-use Rattle.input.specs.declared.reading.Got.{Got}
-use Rattle.input.specs.declared.reading.Got.the-variants as got
-use Rattle.input.specs.Pieces.{Within}
-
-pub within-part : (at : ℕ) (buf : List ℕ) (r : Got) → Within (length (take (length buf - at) (drop at buf))) r → Within (length buf - at) r
-within-part at buf r w =
-    subst (λ (n : ℕ). Within n r) (length-take-le (length buf - at) (drop at buf) (subst (λ (n : ℕ). length buf - at ≤ n) (sym (length-drop at buf)) (omega arith))) w
+use Rattle.input.specs.declared.reading.Next.{Next}
+use Rattle.input.specs.declared.reading.Next.the-variants as next
+use Rattle.input.specs.Pieces.{afterBytes, nextOf}
 
 pub before-kept : (at : ℕ) (buf x : List ℕ) → at ≤ length buf → take at (take at buf ++ x) ≡ take at buf
 before-kept at buf x h = ap (λ (n : ℕ). take n (take at buf ++ x)) (sym (length-take-le at buf h)) ∙ take-append-seam (take at buf) x
 
--- the place after a read that gave k bytes
-pub record Next (n at k : ℕ) : Type 0 where
-  pub some : 1 ≤ k
-  pub inside : at + k ≤ n
+-- where it goes on lies behind the place and before the end
+pub more-on : (z : ℤ) (at n p : ℕ) → nextOf z at n ≡ next.More p → (at < p) × (p < n)
+more-on (negsuc k) at n p e = absurd (let z : _≡_ {A = ℕ} 0 1 = cc in omega arith)
+more-on (pos k) at n p e = go (eqb k 0) (ltb k (n - at)) refl refl e
+  where
+    go : (a b : Bool) → eqb k 0 ≡ a → ltb k (n - at) ≡ b → cond a (next.Whole at) (cond b (next.More (at + k)) (next.Whole n)) ≡ next.More p → (at < p) × (p < n)
+    go true b ea eb q = absurd (let z : _≡_ {A = ℕ} 0 1 = cc in omega arith)
+    go false true ea eb q = let same : at + k ≡ p = cc in (omega (arith, eqb-false k 0 ea, same), omega (arith, ltb-true k (n - at) eb, same))
+    go false false ea eb q = absurd (let z : _≡_ {A = ℕ} 0 1 = cc in omega arith)
 
-pub next-place : (n at k : ℕ) (r : Got) → Within (n - at) r → r ≡ got.Bytes k → at ≤ n → Next n at k
-next-place n at k r w e h =
-    let v : Within (n - at) (got.Bytes k) = subst (Within (n - at)) e w in
-    record { some = v .0; inside = omega (arith, v .1, h) }
+pub whole-within : (z : ℤ) (at n m : ℕ) → at ≤ n → nextOf z at n ≡ next.Whole m → m ≤ n
+whole-within (negsuc k) at n m h e = absurd (let z : _≡_ {A = ℕ} 0 1 = cc in omega arith)
+whole-within (pos k) at n m h e = go (eqb k 0) (ltb k (n - at)) e
+  where
+    go : (a b : Bool) → cond a (next.Whole at) (cond b (next.More (at + k)) (next.Whole n)) ≡ next.Whole m → m ≤ n
+    go true b q = let same : at ≡ m = cc in omega (arith, h, same)
+    go false true q = absurd (let z : _≡_ {A = ℕ} 0 1 = cc in omega arith)
+    go false false q = let same : n ≡ m = cc in omega (arith, same)
 
--- the length n of the buffer stays
-module _ (n n′ : ℕ) (e : n′ ≡ n) (at : ℕ) where
-  pub next-less : (k : ℕ) → Next n at k → n′ - (at + k) < n - at
-  next-less k x = omega (arith, x .some, x .inside, e)
+-- ---- by the sign of the answer
+pub some-bytes : (z : ℤ) (at n : ℕ) {r : Next} → ltZ (pos 0) z ≡ true → r ≡ afterBytes (natAbs z) at n → r ≡ nextOf z at n
+some-bytes (pos k) at n h e = e ∙ ap (λ (b : Bool). cond b (next.Whole at) (afterBytes k at n)) (sym (ne-eqb k 0 (λ z. omega (arith, ltb-true 0 k h, z))))
+some-bytes (negsuc k) at n h e = absurd (true≢false (sym h))
 
-  pub next-inside : (k : ℕ) → Next n at k → at + k ≤ n′
-  next-inside k x = omega (arith, x .inside, e)
+pub no-answer : (z : ℤ) (at n : ℕ) → ltZ z (pos 0) ≡ true → next.Failed ≡ nextOf z at n
+no-answer (pos k) at n h = absurd (let l = ltb-true k 0 h in omega arith)
+no-answer (negsuc k) at n h = refl
 
-  pub still-inside : at ≤ n → at ≤ n′
-  still-inside h = omega (arith, h, e)
+pub no-bytes : (z : ℤ) (at n : ℕ) → ltZ (pos 0) z ≡ false → ltZ z (pos 0) ≡ false → next.Whole at ≡ nextOf z at n
+no-bytes (pos k) at n h l = ap (λ (b : Bool). cond b (next.Whole at) (afterBytes k at n)) (sym (eq-eqb k 0 (omega (arith, ltb-false 0 k h))))
+no-bytes (negsuc k) at n h l = absurd (true≢false l)
+
+pub positive : (z : ℤ) → ltZ (pos 0) z ≡ true → T (nonNeg z)
+positive (pos n) e = tt
+positive (negsuc n) e = subst T (sym e) tt

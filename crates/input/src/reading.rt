@@ -1,14 +1,15 @@
 // The whole input, in a buffer.
 ghost use mathlib.Core.Path.{_≡_};
-ghost use Prim.Native.Nat.{_-_, _≤_};
+ghost use Prim.Native.Nat.{_≤_, min};
 ghost use lib.ListN.{length, take};
-ghost use Rattle.input.specs.Pieces.{Within, Held};
+ghost use Rattle.input.specs.Pieces.{afterBytes, nextOf, Held};
 use libc::STDIN_FILENO;
 
-// What one read gave.
-pub enum Got {
-    Bytes(usize),
-    End,
+// What a read tells of the input, when so many bytes of the buffer are filled: it goes on at a place, it is in the buffer as far as the buffer
+// takes it, or the read failed.
+pub enum Next {
+    More(usize),
+    Whole(usize),
     Failed,
 }
 
@@ -18,28 +19,45 @@ pub enum Input {
     Failed,
 }
 
-// One read.
-fn read_some(buf: &mut [u8]) -> Got
-    ensures { λ r. ⌜ Within (length (now (buf .entry))) r ⌝ }
+// What a read of n bytes, 1 or more, tells.
+fn after_bytes(n: usize, at: usize, len: usize) -> Next
+    ensures { λ r. ⌜ r ≡ afterBytes n at len ⌝ }
 {
-    let got = libc::read(STDIN_FILENO, buf);
-    if got < 0 {
-        return Got::Failed;
+    if len <= at {
+        return Next::Whole(len);
     }
-    let n = io::count(got, buf);
-    if n == 0 {
-        return Got::End;
+    if n < len - at {
+        return Next::More(at + n);
     }
-    Got::Bytes(n)
+    Next::Whole(len)
 }
 
-// One read into the buffer from a place on. The bytes before it stay.
-fn read_at(buf: &mut [u8], at: usize) -> Got
-    requires { ⌜ at ≤ length (now buf) ⌝ }
-    ensures { λ r. ⌜ Within (length (now (buf .entry)) - at) r ⌝ }
-    ensures { λ r. ⌜ take at (now (buf .exit)) ≡ take at (now (buf .entry)) ⌝ }
+// `got` is what `read` answered, asked to put bytes from `at` on into a buffer of `len` bytes.
+pub fn after_read(got: isize, at: usize, len: usize) -> Next
+    ensures { λ r. ⌜ r ≡ nextOf got at len ⌝ }
 {
-    read_some(&mut buf[at..])
+    if got > 0 {
+        return after_bytes(got as usize, at, len);
+    }
+    if got < 0 {
+        return Next::Failed;
+    }
+    Next::Whole(at)
+}
+
+fn smaller(a: usize, b: usize) -> usize
+    ensures { λ r. ⌜ r ≡ min a b ⌝ }
+{
+    if a <= b { a } else { b }
+}
+
+// One read into the buffer from a place on, of at most 4,096 bytes, so that an input from a file comes in pieces too. The bytes before the place stay.
+fn read_at(buf: &mut [u8], at: usize) -> isize
+    requires { ⌜ at ≤ length (now buf) ⌝ }
+    ensures { λ _. ⌜ take at (now (buf .exit)) ≡ take at (now (buf .entry)) ⌝ }
+{
+    let end = at + smaller(4096, buf.len() - at);
+    libc::read(STDIN_FILENO, &mut buf[at..end])
 }
 
 // Reads piece after piece, until the input ends or the buffer is full.
@@ -47,12 +65,14 @@ pub fn read_input(buf: &mut [u8]) -> Input
     ensures { λ r. ⌜ Held (now (buf .exit)) r ⌝ }
 {
     let mut at = 0;
-    while at < buf.len() {
-        match read_at(buf, at) {
-            Got::Bytes(n) => at += n,
-            Got::End => return Input::Bytes(at),
-            Got::Failed => return Input::Failed,
+    loop {
+        let got = read_at(buf, at);
+        let len = buf.len();
+        let next = after_read(got, at, len);
+        match next {
+            Next::More(place) => at = place,
+            Next::Whole(n) => return Input::Bytes(n),
+            Next::Failed => return Input::Failed,
         }
     }
-    Input::Bytes(at)
 }

@@ -11,6 +11,9 @@ use Rattle.input.specs.Pieces.{Held}
 use Rattle.io.specs.Counts.{Counts}
 use Rattle.replies.specs.Written.{Printing}
 use Rattle.sheet.specs.Screen.{bench}
+use Rattle.console.specs.declared.Told.{Told}
+use Rattle.console.specs.declared.Told.the-variants.{Text}
+use Rattle.console.specs.Told.{Says}
 use Rattle.sheet.proofs.LengthLaws.{bench-fits, whole-text}
 
 -- ---- the bytes that were read
@@ -27,3 +30,10 @@ screened s n out out′ p long kept =
     let room : length (bench s) ≤ length out = subst (λ (m : ℕ). length (bench s) ≤ m) (sym long) (bench-fits s) in
     let inside : n ≤ length out′ = omega (arith, p .count, kept, room) in
     ((inside, sym (length-take-le n out′ inside)), whole-text (bench s) n out out′ p room)
+
+-- ---- the text that is handed on
+pub told-inside : (buf text : List ℕ) (r : Told) (k n : ℕ) → Says buf text r → r ≡ Text k n → n ≤ length text
+told-inside buf text r k n h e = subst (Says buf text) e h .whole
+
+pub told-count : (buf text : List ℕ) (r : Told) (k n : ℕ) → Says buf text r → r ≡ Text k n → n ≡ length (take n text)
+told-count buf text r k n h e = sym (length-take-le n text (told-inside buf text r k n h e))

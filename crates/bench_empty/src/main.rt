@@ -1,0 +1,4 @@
+// `bench` on an empty input.
+fn main() {
+    console::run();
+}

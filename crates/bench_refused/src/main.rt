@@ -1,0 +1,4 @@
+// `bench` on a sheet that is refused.
+fn main() {
+    console::run();
+}

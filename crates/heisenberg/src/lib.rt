@@ -1,0 +1,1 @@
+// The published rules of rotations, tableau rows and expectation values, beside the definitions: statements and proofs alone.
