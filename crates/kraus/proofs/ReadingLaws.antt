@@ -1,14 +1,14 @@
 -- Where its test passes, a formula's reading as a polynomial has the formula's exact value.
-use Prim.Native.Nat.{ℕ, zero, suc, _<_}
+use Prim.Native.Nat.{ℕ, zero, suc}
 use mathlib.Core.Path.{_≡_, refl, sym, ap, ap₂, _∙_, subst}
 use mathlib.Core.Bool.{Bool, true, false, _||_}
 use mathlib.Core.List.{List, [], _∷_, map}
-use lib.Dec.{T, ltb, ltb→lt}
+use lib.Dec.{T, eqb, eqb→eq}
 use lib.ListN.{getD}
 use Rattle.words.proofs.EveryGate.{and-fst, and-snd}
 use Rattle.kraus.specs.Arithmetic.{Arithmetic}
 use Rattle.kraus.specs.Formula.{Formula, number, real, _⊞_, _⊟_, _⊠_, _÷_, held, root}
-use Rattle.kraus.specs.Exact.{numeral, Exact, valueOf}
+use Rattle.kraus.specs.Exact.{numeral, Divisor, three, fifteen, Exact, valueOf}
 use Rattle.kraus.proofs.Polynomial as P
 use Rattle.kraus.proofs.Polynomial.{Polynomial, polynomials}
 use Rattle.kraus.proofs.Reading.{exact, isExact, allExact}
@@ -65,11 +65,15 @@ module _ (N : Arithmetic) (E : Exact N) (x y z : N .Number) where
         sym
         (ap (λ (v : N .Number). N .times v (at (P.divided n p))) (sym (R.at-whole N (E .ring) x y z n))
         ∙ sym (R.at-times N (E .ring) x y z (P.whole n) (P.divided n p))
-        ∙ R.at-same N (E .ring) x y z (P.times (P.whole n) (P.divided n p)) p (and-snd (ltb 0 n) _ t))
+        ∙ R.at-same N (E .ring) x y z (P.times (P.whole n) (P.divided n p)) p (and-snd (P.isDivisor n) _ t))
 
-    divisor : (n : ℕ) (p : Polynomial) → T (P.divides n p) → 0 < n
+    divisor : (n : ℕ) (p : Polynomial) → T (P.divides n p) → Divisor n
     unfolding P.divides
-    divisor n p t = ltb→lt 0 n (and-fst (ltb 0 n) _ t)
+    divisor n p t = go (eqb n 3) refl (and-fst (P.isDivisor n) _ t)
+      where
+        go : (b : Bool) → eqb n 3 ≡ b → T (b || eqb n 15) → Divisor n
+        go true e t = subst Divisor (sym (eqb→eq n 3 (rw e tt))) three
+        go false e t = subst Divisor (sym (eqb→eq n 15 t)) fifteen
 
     pub sound : (rs : List Polynomial) (f : Formula) → T (isExact rs f) → at (exact rs f) ≡ valueOf N E (map at rs) f
     unfolding exact isExact valueOf

@@ -1,6 +1,6 @@
--- Exact numbers, by what is used of them: a commutative ring in which numerals can be divided by, with max(v, 0), and with a root for the squares of
--- numbers at least 0. The real numbers are such.
-use Prim.Native.Nat.{ℕ, zero, suc, _<_}
+-- Exact numbers, by what is used of them: a commutative ring in which 3 and 15 can be divided by, with max(v, 0), and with a root for the squares of
+-- numbers at least 0. The real numbers are such; so are the seven of proofs/Seven.
+use Prim.Native.Nat.{ℕ, zero, suc}
 use mathlib.Core.Path.{_≡_}
 use mathlib.Core.List.{List}
 use lib.ListN.{getD}
@@ -24,10 +24,15 @@ pub record Ring (N : Arithmetic) : Type 0 where
   -- real: each number is its own conjugate
   pub star-same : (u : N .Number) → N .star u ≡ u
 
+-- what the formulas of the channels divide by
+pub data Divisor : ℕ → Type 0 where
+  three : Divisor 3
+  fifteen : Divisor 15
+
 pub record Exact (N : Arithmetic) : Type 1 where
   pub ring : Ring N
   pub over : N .Number → ℕ → N .Number
-  pub over-times : (u : N .Number) (n : ℕ) → 0 < n → over (N .times (numeral N n) u) n ≡ u
+  pub over-times : (u : N .Number) (n : ℕ) → Divisor n → over (N .times (numeral N n) u) n ≡ u
   pub max0 : N .Number → N .Number
   pub max0-square : (u : N .Number) → max0 (N .times u u) ≡ N .times u u
   pub AtLeast0 : N .Number → Type 0
