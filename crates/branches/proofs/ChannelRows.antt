@@ -1,7 +1,7 @@
 -- One row under a channel: its letter, its multiplier, its identity branch, and a turn of each loop over the rows. Assumes nothing.
 use mathlib.Core.Path.{_≡_, refl, sym, ap, ap₂, _∙_, subst}
 use mathlib.Core.Bool.{Bool, true, false, not, cond, _&&_, _||_}
-use mathlib.Core.List.{List, [], _∷_, _++_, map}
+use mathlib.Core.List.{List, map}
 use Prim.Native.Nat.{ℕ, _+_, _*_, _≤_, _<_}
 use native.Mathlib.Nat.{zero-add, le-refl}
 use native.Mathlib.Omega.{arith}
@@ -28,7 +28,8 @@ use Rattle.terms.proofs.FirstLaws.{first-ext, first-at}
 use Rattle.terms.proofs.FoundLaws.{addedAt, isAt, added-row, in-row}
 use Rattle.terms.proofs.IdentityLaws.{branch-now}
 use Rattle.branches.specs.Letters.{letterOf}
-use Rattle.rows.specs.Rows.{keyAt, coeffAt, termAt, termsIn, rowsIn, putKey, putCoeff, Room, Holds, Grown}
+use Rattle.words.specs.Rows.{keyAt}
+use Rattle.rows.specs.Rows.{coeffAt, termAt, termsIn, rowsIn, putKey, putCoeff, Room, Holds, Grown}
 use Rattle.rows.proofs.RowLaws.{length-key, put-val-same}
 use Rattle.rows.proofs.HoldLaws.{hold-start, hold-at, hold-val, hold-push, hold-wide, hold-trans, room-at, room-less}
 use Rattle.rows.proofs.StepLaws.{grown}

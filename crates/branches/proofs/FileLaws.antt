@@ -17,7 +17,7 @@ use Rattle.terms.specs.declared.Found.{Found}
 use Rattle.terms.specs.Branch.{first}
 use Rattle.terms.proofs.CaseLaws.{and-true, same-test, lt-or-le}
 use Rattle.terms.proofs.FirstLaws.{first-ext}
-use Rattle.rows.specs.Rows.{keyAt}
+use Rattle.words.specs.Rows.{keyAt}
 use Rattle.rows.specs.Cleared.{filled}
 use Rattle.branches.specs.declared.Sought.{Sought}
 use Rattle.branches.specs.Probe.{soughtBy, files}

@@ -7,7 +7,7 @@ use native.Mathlib.Numerals.{add-one}
 use lib.ListN.{length, getD, drop}
 use lib.Seq.{drop-cons, drop-length}
 use Rattle.words.specs.Keys.{Key}
-use Rattle.branches.specs.Chains.{mixed, hashed, spread, bucketOf}
+use Rattle.branches.specs.Chains.{stirred, hashed, spread, bucketOf}
 
 pub product-fits : (a b : ℕ) → a < 4294967296 → b < 4294967296 → a * b < 18446744073709551616
 product-fits a b h l =
@@ -40,11 +40,11 @@ unfolding bucketOf
 bucket-lt buckets k some = spread-lt (hashed 0 k) buckets some
 
 -- the words before place k are taken in
-pub hash-turn : (key : Key) (k h v u : ℕ) → k < length key → hashed h (drop k key) ≡ hashed 0 key → v ≡ getD key k 0 → u ≡ mixed h v
+pub hash-turn : (key : Key) (k h v u : ℕ) → k < length key → hashed h (drop k key) ≡ hashed 0 key → v ≡ getD key k 0 → u ≡ stirred h v
     → hashed u (drop (k + 1) key) ≡ hashed 0 key
 unfolding hashed
 hash-turn key k h v u l e p q =
-    (λ z. hashed ((q ∙ ap (mixed h) p) z) (drop (add-one k z) key)) ∙ sym (ap (hashed h) (drop-cons key k 0 l)) ∙ e
+    (λ z. hashed ((q ∙ ap (stirred h) p) z) (drop (add-one k z) key)) ∙ sym (ap (hashed h) (drop-cons key k 0 l)) ∙ e
 
 pub hash-end : (key : Key) (k h buckets : ℕ) → k ≡ length key → hashed h (drop k key) ≡ hashed 0 key → spread h buckets ≡ bucketOf buckets key
 unfolding bucketOf hashed

@@ -23,7 +23,8 @@ use Rattle.terms.proofs.CaseLaws.{and-true, eq-or-ne, lt-or-le}
 use Rattle.terms.proofs.AxisLaws.{partner-length}
 use Rattle.terms.proofs.ListLaws.{length-tab, getD-tab}
 use Rattle.terms.proofs.FirstLaws.{first-ext}
-use Rattle.rows.specs.Rows.{keyAt, termAt, termsIn, putKey, Holds}
+use Rattle.words.specs.Rows.{keyAt}
+use Rattle.rows.specs.Rows.{termAt, termsIn, putKey, Holds}
 use Rattle.rows.proofs.RowLaws.{length-key, key-put-other}
 use Rattle.rows.proofs.HoldLaws.{hold-at}
 use Rattle.branches.specs.declared.Sought.{Sought}

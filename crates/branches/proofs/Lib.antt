@@ -10,6 +10,5 @@ mod RotationRows
 pub mod RotatedLaws
 mod ChannelRows
 mod IndexRows
-mod YLaws
 mod ShareLaws
 mod StartLaws

@@ -1,9 +1,9 @@
 -- The pass that makes the table of partners, row by row. Assumes nothing.
 use mathlib.Core.Path.{_≡_, refl, sym, ap, ap₂, _∙_, subst}
-use mathlib.Core.Bool.{Bool, true, false, false≢true, _&&_}
+use mathlib.Core.Bool.{Bool, true, false, not, false≢true, _&&_}
 use mathlib.Core.Logic.{_⊎_, inl, inr, ⊎-elim}
 use mathlib.Core.List.{List}
-use Prim.Native.Nat.{ℕ, zero, suc, _+_, _-_, _*_, _≤_, _<_}
+use Prim.Native.Nat.{ℕ, zero, suc, _+_, _-_, _*_, _/_, _%_, _≤_, _<_}
 use native.Mathlib.Nat.{eq-or-lt-of-le, le-of-suc-le-suc, not-suc-le-zero}
 use native.Mathlib.Omega.{arith}
 use native.Mathlib.Numerals.{add-one}
@@ -17,17 +17,22 @@ use Rattle.terms.specs.declared.Axis.{Axis}
 use Rattle.terms.specs.declared.Found.{Found}
 use Rattle.terms.specs.declared.Found.the-variants.{At, Nothing}
 use Rattle.terms.specs.Branch.{first, orAt}
+use Rattle.words.specs.Letters.{isOdd}
+use Rattle.terms.specs.Term.{oddY}
 use Rattle.terms.specs.Rotation.{metBy, partnerBy, onKey}
 use Rattle.terms.proofs.CaseLaws.{and-true, eq-or-ne, lt-or-le}
 use Rattle.terms.proofs.FirstLaws.{first-here, first-at, first-nothing}
 use Rattle.terms.proofs.AxisLaws.{partner-back, partner-met, partner-moves}
-use Rattle.rows.specs.Rows.{keyAt}
+use Rattle.terms.proofs.YLaws.{partner-odd}
+use Rattle.words.specs.Rows.{keyAt}
 use Rattle.rows.proofs.RowLaws.{length-key, row-before}
 use Rattle.branches.specs.declared.Sought.{Sought}
 use Rattle.branches.specs.declared.Sought.the-variants.{Partner}
 use Rattle.branches.specs.Probe.{soughtBy}
 use Rattle.branches.specs.Chains.{classOf, bucketOf, Chained, Linked, pushed, foundOf, Walked}
-use Rattle.branches.specs.Pairs.{mateOf, codeAt, joined, begun, partnerRow, Pairing, Table}
+use Rattle.branches.specs.declared.Mate.{Mate}
+use Rattle.branches.specs.declared.Mate.the-variants.{Done, Lone, Later}
+use Rattle.branches.specs.Pairs.{mateOf, codeAt, joined, begun, passed, partnerRow, NotAfter, Told, Pairing, Table}
 use Rattle.branches.proofs.ProbeLaws.{class-sought}
 use Rattle.branches.proofs.ChainLaws.{chained-ext, chained-more, chained-skip}
 use Rattle.branches.proofs.FileLaws.{placed, placed-before, placed-here}
@@ -71,12 +76,27 @@ module _ (K : ℕ → Key) (k : Key) where
   pub seek-past : (m : ℕ) → (K m ≡ k → ⊥) → first has (suc m) ≡ first has m
   seek-past m n = first-past has m (sameKey-ne (K m) k n)
 
--- ---- the row behind a number
+-- ---- what a number says
 
-pub mate-none : (c : ℕ) → c < 2 → mateOf c ≡ Nothing
-mate-none zero h = refl
-mate-none (suc zero) h = refl
-mate-none (suc (suc c)) h = absurd (omega arith)
+pub mate-later : (j odd : ℕ) → odd < 2 → mateOf (2 * (j + 1) + odd) ≡ Later j odd
+mate-later j odd h =
+    let e : 2 * (j + 1) + odd ≡ suc (suc (2 * j + odd)) = omega arith in
+    let d : (2 * j + odd) / 2 ≡ j = omega arith in
+    let o : (2 * j + odd) % 2 ≡ odd = omega arith in
+    ap mateOf e ∙ ap₂ Later d o
+
+-- the other of two parities
+other-odd : (odd : ℕ) → odd < 2 → isOdd (1 - odd) ≡ not (isOdd odd)
+other-odd zero h = refl
+other-odd (suc zero) h = refl
+other-odd (suc (suc n)) h = absurd (omega arith)
+
+-- what is said of a row stays so while its key stays, and its partner's row if it is met
+pub told-same : (x : Axis) (w : ℕ) (ws vs : List ℕ) (m l k : ℕ) → keyAt (2 * w) vs k ≡ keyAt (2 * w) ws k
+    → (metBy x (keyAt (2 * w) ws k) ≡ true → partnerRow w x vs l k ≡ partnerRow w x ws m k) → (t : Mate) → Told x w ws m k t → Told x w vs l k t
+told-same x w ws vs m l k e p Done h = λ a. let b = ap (metBy x) (sym e) ∙ a in subst (NotAfter k) (sym (p b)) (h b)
+told-same x w ws vs m l k e p Lone h = (ap (metBy x) e ∙ h .0, p (h .0) ∙ h .1)
+told-same x w ws vs m l k e p (Later j odd) h = (ap (metBy x) e ∙ h .0, p (h .0) ∙ h .1, h .2, h .3 ∙ ap (oddY w) (sym e))
 
 -- ---- what a walk says
 
@@ -158,15 +178,15 @@ module _ (x : Axis) (w : ℕ) (ws : List ℕ) (n m buckets : ℕ) (ix : List ℕ
 
   -- Row m added, in bucket b: it is apart from the rows before it, and is in the bucket of its key unless its partner is before it.
   more : (b : ℕ) (vs : List ℕ) → length vs ≡ length ix → Chained (put b) (suc m) buckets vs
-      → ((k : ℕ) → k < m → Met k → mateOf (codeAt buckets n vs k) ≡ partnerRow w x ws (suc m) k)
-      → (Met m → mateOf (codeAt buckets n vs m) ≡ partnerRow w x ws (suc m) m)
+      → ((k : ℕ) → k < m → Told x w ws (suc m) k (mateOf (codeAt buckets n vs k)))
+      → Told x w ws (suc m) m (mateOf (codeAt buckets n vs m))
       → ((k : ℕ) → k < m → Met k → K k ≡ K m → ⊥)
       → (Met m → partnerRow w x ws m m ≡ Nothing → b ≡ home (K m))
       → Pairing x w ws n (m + 1) buckets vs
   more b vs l C old new apart file = subst (λ (i : ℕ). Pairing x w ws n i buckets vs) (sym (add-one m)) (record {
     room = let r = S .room in omega arith;
     links = record { some = S .links .some; few = S .links .few; room = let r = S .room in omega arith; place = put b; chained = C };
-    mates = each (λ (k : ℕ). Met k → mateOf (codeAt buckets n vs k) ≡ partnerRow w x ws (suc m) k) old new;
+    mates = each (λ (k : ℕ). Told x w ws (suc m) k (mateOf (codeAt buckets n vs k))) old new;
     apart = λ k l a b h e. each (λ (j : ℕ). k < j → K k ≡ K j → ⊥) (λ j g c q. S .apart k j c g h q) (λ c q. apart k c h q) l b a e;
     filed = each (λ (k : ℕ). Met k → partnerRow w x ws k k ≡ Nothing → put b k ≡ home (K k))
         (λ k h a e. sym (placed-before (S .links .place) m b k h) ∙ S .filed k h a e)
@@ -177,13 +197,34 @@ module _ (x : Axis) (w : ℕ) (ws : List ℕ) (n m buckets : ℕ) (ix : List ℕ
   skipped : Chained (put buckets) (suc m) buckets ix
   skipped = chained-skip (put buckets) m buckets ix (before buckets) (let e = placed-here (S .links .place) m buckets in omega arith)
 
+  -- what is said of a row before row m, whose number stays, stays so if row m is not its partner
+  stays : (vs : List ℕ) (k : ℕ) → k < m → codeAt buckets n vs k ≡ codeAt buckets n ix k → (Met k → K m ≡ P (K k) → ⊥)
+      → Told x w ws (suc m) k (mateOf (codeAt buckets n vs k))
+  stays vs k h e d =
+      subst (λ (c : ℕ). Told x w ws (suc m) k (mateOf c)) (sym e)
+      (told-same x w ws ws m (suc m) k refl (λ a. seek-past K (P (K k)) m (d a)) (mateOf (codeAt buckets n ix k)) (S .mates k h))
+
+  -- ---- the number of row m set to 0: nothing is to be done at it
+
+  abbrev zeroed : List ℕ
+  zeroed = passed n m buckets ix
+
+  length-zeroed : length zeroed ≡ length ix
+  length-zeroed = length-set ix (buckets + n + m) 0
+
+  zeroed-other : (p : ℕ) → (p ≡ buckets + n + m → ⊥) → getD zeroed p 0 ≡ getD ix p 0
+  zeroed-other p d = getD-set-other ix (buckets + n + m) p 0 0 d
+
+  zeroed-here : codeAt buckets n zeroed m ≡ 0
+  zeroed-here = getD-set-same ix (buckets + n + m) 0 0 (let l = S .room in omega arith)
+
   -- ---- a row that is not met
 
-  pub pairing-unmet : metBy x (K m) ≡ false → Pairing x w ws n (m + 1) buckets ix
+  pub pairing-unmet : metBy x (K m) ≡ false → Pairing x w ws n (m + 1) buckets (passed n m buckets ix)
   pairing-unmet e =
-      more buckets ix refl skipped
-      (λ k h a. S .mates k h a ∙ sym (seek-past K (P (K k)) m (λ q. unmet (met-mate (K m) (K k) q a))))
-      (λ a. absurd (unmet a))
+      more buckets zeroed length-zeroed (chained-same (put buckets) (suc m) buckets ix zeroed (λ p h. zeroed-other p (λ q. omega arith)) skipped)
+      (λ k h. stays zeroed k h (zeroed-other (buckets + n + k) (λ q. omega arith)) (λ a q. unmet (met-mate (K m) (K k) q a)))
+      (subst (λ (c : ℕ). Told x w ws (suc m) m (mateOf c)) (sym zeroed-here) (λ a. absurd (unmet a)))
       (λ k h a q. unmet (ap (metBy x) (sym q) ∙ a))
       (λ a. absurd (unmet a))
     where
@@ -192,54 +233,62 @@ module _ (x : Axis) (w : ℕ) (ws : List ℕ) (n m buckets : ℕ) (ix : List ℕ
 
   -- ---- a row whose partner, row r, is before it and has none yet
 
-  module _ (met : Met m) (r : ℕ) (hr : r < m) (mate : K r ≡ P (K m)) (code : codeAt buckets n ix r ≡ 1) where
-    vs : List ℕ
-    vs = joined (buckets + n) m r ix
+  module _ (met : Met m) (r : ℕ) (hr : r < m) (mate : K r ≡ P (K m)) (code : codeAt buckets n ix r ≡ 1)
+      (odd : ℕ) (bit : odd < 2) (own : isOdd odd ≡ oddY w (K m)) where
+    abbrev sent : ℕ
+    sent = 2 * (m + 1) + (1 - odd)
 
-    abbrev one : List ℕ
-    one = set ix (buckets + n + m) (r + 2)
+    vs : List ℕ
+    vs = joined (buckets + n) m r odd ix
 
     length-vs : length vs ≡ length ix
     unfolding vs
-    length-vs = length-set one (buckets + n + r) (m + 2) ∙ length-set ix (buckets + n + m) (r + 2)
+    length-vs = length-set zeroed (buckets + n + r) sent ∙ length-zeroed
 
     at-other : (p : ℕ) → (p ≡ buckets + n + r → ⊥) → (p ≡ buckets + n + m → ⊥) → getD vs p 0 ≡ getD ix p 0
     unfolding vs
-    at-other p a b = getD-set-other one (buckets + n + r) p (m + 2) 0 a ∙ getD-set-other ix (buckets + n + m) p (r + 2) 0 b
+    at-other p a b = getD-set-other zeroed (buckets + n + r) p sent 0 a ∙ zeroed-other p b
 
-    at-mate : codeAt buckets n vs r ≡ m + 2
+    at-mate : codeAt buckets n vs r ≡ sent
     unfolding vs
-    at-mate = getD-set-same one (buckets + n + r) (m + 2) 0 (let l = S .room in simp length-set (omega arith))
+    at-mate = getD-set-same zeroed (buckets + n + r) sent 0 (let l = S .room in let g = length-zeroed in omega arith)
 
-    at-row : codeAt buckets n vs m ≡ r + 2
+    at-row : codeAt buckets n vs m ≡ 0
     unfolding vs
-    at-row =
-        getD-set-other one (buckets + n + r) (buckets + n + m) (m + 2) 0 (λ e. omega arith)
-        ∙ getD-set-same ix (buckets + n + m) (r + 2) 0 (let l = S .room in omega arith)
-
-    coded : (j : ℕ) → mateOf (j + 2) ≡ At j
-    coded j = let e : j + 2 ≡ suc (suc j) = omega arith in ap mateOf e
+    at-row = getD-set-other zeroed (buckets + n + r) (buckets + n + m) sent 0 (λ e. omega arith) ∙ zeroed-here
 
     mate-met : Met r
     mate-met = met-mate (K r) (K m) mate met
 
     -- row r has no partner among the rows before row m
     alone : partnerRow w x ws m r ≡ Nothing
-    alone = sym (S .mates r hr mate-met) ∙ ap mateOf code
+    alone = subst (λ (c : ℕ). Told x w ws m r (mateOf c)) code (S .mates r hr) .1
 
-    pub pairing-joined : Pairing x w ws n (m + 1) buckets (joined (buckets + n) m r ix)
+    -- row m is row r's partner, and row r is row m's
+    found : partnerRow w x ws (suc m) r ≡ At m
+    found = first-here (has K (P (K r))) m alone (ap (sameKey (K m)) (sym (swap (K r) (K m) mate)) ∙ sameKey-refl (K m))
+
+    finds : partnerRow w x ws (suc m) m ≡ At r
+    finds = seek-past K (P (K m)) m not-own ∙ only-seek K (P (K m)) m r hr mate (λ i h e. one-row i r h hr (met-mate (K i) (K m) e met) (e ∙ sym mate))
+
+    other : isOdd (1 - odd) ≡ oddY w (K r)
+    other = other-odd odd bit ∙ ap not own ∙ sym (partner-odd w x on (K m) long met) ∙ ap (oddY w) (sym mate)
+
+    told-mate : Told x w ws (suc m) r (mateOf (codeAt buckets n vs r))
+    told-mate =
+        let e : mateOf (codeAt buckets n vs r) ≡ Later m (1 - odd) = ap mateOf at-mate ∙ mate-later m (1 - odd) (omega arith) in
+        subst (Told x w ws (suc m) r) (sym e) (mate-met, found, hr, other)
+
+    pub pairing-joined : Pairing x w ws n (m + 1) buckets (joined (buckets + n) m r odd ix)
     unfolding vs
     pairing-joined =
         more buckets vs length-vs (chained-same (put buckets) (suc m) buckets ix vs (λ p h. at-other p (λ e. omega arith) (λ e. omega arith)) skipped)
-        (λ k h a. ⊎-elim
-        (λ (e : k ≡ r). subst (λ (j : ℕ). mateOf (codeAt buckets n vs j) ≡ partnerRow w x ws (suc m) j) (sym e)
-        (ap mateOf at-mate ∙ coded m ∙ sym (first-here (has K (P (K r))) m alone (ap (sameKey (K m)) (sym (swap (K r) (K m) mate)) ∙ sameKey-refl (K m)))))
+        (λ k h. ⊎-elim
+        (λ (e : k ≡ r). subst (λ (j : ℕ). Told x w ws (suc m) j (mateOf (codeAt buckets n vs j))) (sym e) told-mate)
         (λ (d : k ≡ r → ⊥).
-        ap mateOf (at-other (buckets + n + k) (λ e. d (omega arith)) (λ e. omega arith)) ∙ S .mates k h a
-        ∙ sym (seek-past K (P (K k)) m (λ q. d (one-row k r h hr a (swap (K m) (K k) q ∙ sym mate)))))
+        stays vs k h (at-other (buckets + n + k) (λ e. d (omega arith)) (λ e. omega arith)) (λ a q. d (one-row k r h hr a (swap (K m) (K k) q ∙ sym mate))))
         (eq-or-ne k r))
-        (λ a. ap mateOf at-row ∙ coded r
-        ∙ sym (seek-past K (P (K m)) m not-own ∙ only-seek K (P (K m)) m r hr mate (λ i h e. one-row i r h hr (met-mate (K i) (K m) e met) (e ∙ sym mate))))
+        (subst (λ (c : ℕ). Told x w ws (suc m) m (mateOf c)) (sym at-row) (λ a. subst (NotAfter m) (sym finds) (omega arith)))
         (λ k h a q. seek-none K (P (K r)) m alone k h (q ∙ swap (K r) (K m) mate))
         (λ a e. absurd (seek-none K (P (K m)) m e r hr mate))
 
@@ -311,8 +360,9 @@ module _ (x : Axis) (w : ℕ) (ws : List ℕ) (n m buckets : ℕ) (ix : List ℕ
     pairing-begun =
         more b vs′ length-begun
         (chained-same (put b) (suc m) buckets linked vs′ (λ p h. getD-set-other linked (buckets + n + m) p 1 0 (λ e. omega arith)) chain)
-        (λ k h a. ap mateOf (begun-code k h) ∙ S .mates k h a ∙ sym (seek-past K (P (K k)) m (λ q. none-before k h a (inr (swap (K m) (K k) q)))))
-        (λ a. ap mateOf begun-here ∙ sym (none-seek K (P (K m)) (suc m) (each (λ (j : ℕ). K j ≡ P (K m) → ⊥) (λ j h q. none-before j h (met-mate (K j) (K m) q met) (inr q)) not-own)))
+        (λ k h. stays vs′ k h (begun-code k h) (λ a q. none-before k h a (inr (swap (K m) (K k) q))))
+        (subst (λ (c : ℕ). Told x w ws (suc m) m (mateOf c)) (sym begun-here)
+        (met, none-seek K (P (K m)) (suc m) (each (λ (j : ℕ). K j ≡ P (K m) → ⊥) (λ j h q. none-before j h (met-mate (K j) (K m) q met) (inr q)) not-own)))
         (λ k h a q. none-before k h a (inl q))
         (λ a e. eb)
 

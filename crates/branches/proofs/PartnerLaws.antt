@@ -9,7 +9,8 @@ use Rattle.words.specs.Keys.{Key, flipAt, zAt}
 use Rattle.terms.specs.declared.Axis.{Axis}
 use Rattle.terms.specs.declared.Axis.the-variants.{Z, Zz}
 use Rattle.terms.specs.Rotation.{partnerBy}
-use Rattle.rows.specs.Rows.{keyAt, putKey}
+use Rattle.words.specs.Rows.{keyAt}
+use Rattle.rows.specs.Rows.{putKey}
 use Rattle.rows.proofs.RowLaws.{length-key, key-put-same, put-key-put}
 
 -- ---- one row as a part of the buffer

@@ -22,7 +22,7 @@ use Rattle.terms.specs.Rotation.{metBy, partnerBy}
 use Rattle.terms.proofs.CaseLaws.{eq-or-ne, lt-or-le}
 use Rattle.terms.proofs.AxisLaws.{partner-back, partner-length}
 use Rattle.terms.proofs.ListLaws.{length-tab, getD-tab, tab-ext}
-use Rattle.rows.specs.Rows.{keyAt}
+use Rattle.words.specs.Rows.{keyAt}
 use Rattle.rows.proofs.RowLaws.{word-at, length-key}
 use Rattle.branches.specs.declared.Sought.{Sought}
 use Rattle.branches.specs.declared.Sought.the-variants.{Same, Partner, Identity}

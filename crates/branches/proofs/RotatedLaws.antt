@@ -1,32 +1,32 @@
 -- From the rotation in place to what a rotation leaves, and the widths of the terms in the buffers. Assumes nothing.
-use mathlib.Core.Path.{_≡_, refl, sym, ap, _∙_, subst, subst⁻¹}
-use mathlib.Core.Bool.{Bool, true, false, cond}
+use mathlib.Core.Path.{_≡_, refl, subst, subst⁻¹}
+use mathlib.Core.Bool.{Bool, true, false}
 use mathlib.Core.Logic.{⊎-elim}
 use mathlib.Core.List.{List, map}
 use Prim.Native.Nat.{ℕ, _+_, _*_, _^_, _≤_, _<_}
-use native.Mathlib.Nat.{zero-lt-suc}
 use native.Mathlib.Omega.{arith}
 use lib.Dec.{leb, lit<}
-use lib.ListN.{length, getD, take, drop, List·getD-eq-default, length-map}
+use lib.ListN.{length, List·getD-eq-default}
 use lib.Ieee.{Float}
 use borrow.Author.Tests.{leb-true}
 use Rattle.numbers.specs.Tests.{isZero}
 use Rattle.words.specs.Keys.{Words}
 use Rattle.terms.specs.declared.Axis.{Axis}
 use Rattle.terms.specs.Lists.{All}
-use Rattle.terms.specs.Term.{Term, noTerm, OnWidth, Distinct}
-use Rattle.terms.specs.Rotation.{metBy, partnerBy, onKey, scaledMet, rotated}
+use Rattle.terms.specs.Term.{Term, noTerm, OnWidth}
+use Rattle.terms.specs.Rotation.{metBy, partnerBy, scaledMet}
 use Rattle.terms.specs.Met.{axisTargets, inWords}
 use Rattle.terms.specs.Branch.{branchTo, branched}
-use Rattle.terms.proofs.CaseLaws.{lt-or-le, bool-cases}
+use Rattle.terms.proofs.CaseLaws.{lt-or-le}
 use Rattle.terms.proofs.ListLaws.{length-tab, getD-tab}
 use Rattle.terms.proofs.AllLaws.{all-of}
 use Rattle.terms.proofs.AxisLaws.{axis-branched}
 use Rattle.terms.proofs.LetterSteps.{bare-branched}
-use Rattle.rows.specs.Rows.{keyAt, termAt, termsIn, rowsIn, metIn, Room, Holds, Grown}
+use Rattle.words.specs.Rows.{keyAt}
+use Rattle.rows.specs.Rows.{termAt, termsIn, rowsIn, metIn, Room, Holds, Grown}
 use Rattle.branches.specs.Rotated.{Rotated}
 use Rattle.rows.proofs.RowLaws.{word-at, length-key}
-use Rattle.rows.proofs.HoldLaws.{hold-count, room-at, room-less}
+use Rattle.rows.proofs.HoldLaws.{room-at, room-less}
 use Rattle.rows.proofs.StepLaws.{rows-room, grown, unstepped}
 use Rattle.rows.proofs.LetterRows.{untouched-bare, same-grown, once}
 

@@ -1,20 +1,19 @@
 -- One row of a rotation: what the stores of each case do to the terms, and a turn of the loop over the rows. Assumes nothing.
 use mathlib.Core.Path.{_≡_, refl, sym, ap, ap₂, _∙_}
 use mathlib.Core.Bool.{Bool, true, false, not, cond}
-use mathlib.Core.List.{List, [], _∷_, _++_}
-use Prim.Native.Nat.{ℕ, suc, _+_, _*_, _%_, _≤_, _<_}
+use mathlib.Core.List.{List}
+use Prim.Native.Nat.{ℕ, suc, _+_, _%_, _≤_, _<_}
 use native.Mathlib.Nat.{le-refl}
 use native.Mathlib.Omega.{arith}
 use native.Mathlib.Numerals.{add-one}
-use lib.Dec.{ltb}
-use lib.ListN.{length, getD, set}
+use lib.ListN.{length, getD}
 use lib.Ieee.{Float}
 use borrow.Author.Tests.{lt-ltb, le-ltb}
 use Rattle.numbers.specs.Tests.{isZero}
 use Rattle.words.specs.Keys.{Key, sameKey}
 use Rattle.terms.specs.declared.Found.{Found}
 use Rattle.terms.specs.declared.Found.the-variants.{At, Nothing}
-use Rattle.terms.specs.Letters.{isOdd}
+use Rattle.words.specs.Letters.{isOdd}
 use Rattle.terms.specs.Coefficient.{scaledOf, flippedOf, plusOf}
 use Rattle.terms.specs.Term.{Term, term, noTerm, oddY}
 use Rattle.terms.specs.Rotation.{scaledMet, flippedTerm, mixed}
@@ -22,7 +21,9 @@ use Rattle.terms.specs.Branch.{first, rowOf, branchPair, branchLone, branchBy, 
 use Rattle.terms.proofs.YLaws.{odd-same, odd-suc}
 use Rattle.terms.proofs.ListLaws.{getD-tab}
 use Rattle.terms.proofs.FirstLaws.{first-ext, first-at}
-use Rattle.rows.specs.Rows.{keyAt, coeffAt, termAt, termsIn, putKey, putCoeff, Room, Holds}
+use Rattle.words.specs.Rows.{keyAt}
+use Rattle.rows.specs.Rows.{coeffAt, termAt, termsIn, putKey, putCoeff, Room, Holds}
+use Rattle.branches.specs.Pairs.{NotAfter}
 use Rattle.rows.proofs.RowLaws.{length-key, put-val-same}
 use Rattle.rows.proofs.HoldLaws.{hold-start, hold-val, hold-set, hold-push, hold-room, hold-wide, hold-trans, room-at, room-less}
 
@@ -137,6 +138,22 @@ module _ (w : ℕ) (met : Key → Bool) (partner : Key → Key) (sin cos : Float
 
     pub pair-below : (j : ℕ) → f ≡ At j → j < m
     pair-below j e = let r = first-at (λ j. sameKey (keyAt s ws j) (partner (keyAt s ws i))) n j (sym is ∙ e) .0 in omega arith
+
+  -- nothing is done: the row is not met, or its partner is not after it
+  pub row-done : (n : ℕ) → n ≤ m → (met (keyAt s ws i) ≡ true → NotAfter i (first (λ j. sameKey (keyAt s ws j) (partner (keyAt s ws i))) n))
+      → Holds s m m (branchRow w met partner sin cos n i ts) ws ws cs cs
+  row-done n le h = go (met (keyAt s ws i)) refl
+    where
+      f : Found
+      f = first (λ j. sameKey (keyAt s ws j) (partner (keyAt s ws i))) n
+
+      by : met (keyAt s ws i) ≡ true → (g : Found) → g ≡ f → NotAfter i g → Holds s m m (branchRow w met partner sin cos n i ts) ws ws cs cs
+      by e (At j) q a = row-pair n le e q j refl (pair-done j a)
+      by e Nothing q a = absurd a
+
+      go : (b : Bool) → met (keyAt s ws i) ≡ b → Holds s m m (branchRow w met partner sin cos n i ts) ws ws cs cs
+      go true e = by e f refl (h e)
+      go false e = row-unmet n e
 
 -- ---- a turn of the loop
 

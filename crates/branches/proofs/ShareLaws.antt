@@ -20,7 +20,8 @@ use Rattle.terms.specs.Start.{share, coalesced}
 use Rattle.terms.specs.Term.{Term, term, noTerm, isIn, addTo}
 use Rattle.terms.proofs.FirstLaws.{first-at, first-nothing, first-ext}
 use Rattle.terms.proofs.ListLaws.{fold-tab}
-use Rattle.rows.specs.Rows.{keyAt, coeffAt, termAt, termsIn, rowsIn, putKey, putCoeff, copiedRow, Holds, Room, Stepped}
+use Rattle.words.specs.Rows.{keyAt}
+use Rattle.rows.specs.Rows.{coeffAt, termAt, termsIn, rowsIn, putKey, putCoeff, copiedRow, Holds, Room, Stepped}
 use Rattle.branches.specs.Started.{sharedWords, sharedCoeffs, sharedCount, SharedRow}
 use Rattle.rows.specs.Cleared.{Cleared}
 use Rattle.rows.proofs.RowLaws.{length-key, key-put-other, val-put-other}

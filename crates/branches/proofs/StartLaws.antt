@@ -5,7 +5,7 @@ use mathlib.Core.List.{List, [], _∷_, _++_, append-assoc}
 use Prim.Native.Nat.{ℕ, _+_, _-_, _*_, _/_, _%_, _≤_, _<_}
 use native.Mathlib.Numerals.{add-one}
 use native.Mathlib.Omega.{arith}
-use lib.Dec.{leb, ltb, eqb}
+use lib.Dec.{leb, ltb}
 use lib.ListN.{length, getD, set, take, drop, replicate, length-drop}
 use lib.Seq.{paste, paste-suc, getD-drop}
 use lib.Ieee.{Float, nan, neg}
@@ -13,11 +13,13 @@ use borrow.Author.Tests.{lt-ltb, le-ltb, le-leb, lt-leb}
 use Rattle.numbers.specs.Constants.{zero64}
 use Rattle.words.proofs.RowSteps.{row-fits}
 use Rattle.terms.specs.Lists.{tab}
-use Rattle.terms.specs.Start.{ysOf, termOf, coalesced, merged}
+use Rattle.words.specs.Letters.{ysOf}
+use Rattle.terms.specs.Start.{termOf, coalesced, merged}
 use Rattle.terms.specs.Term.{Term}
 use Rattle.terms.proofs.CaseLaws.{and-false}
 use Rattle.terms.proofs.ListLaws.{tab-snoc, length-tab}
-use Rattle.rows.specs.Rows.{keyAt, termsIn, rowsIn, keysOf, coeffsOf, wordsWith, coeffsWith, putKey, putCoeff, Stepped, Holds}
+use Rattle.words.specs.Rows.{keyAt}
+use Rattle.rows.specs.Rows.{termsIn, rowsIn, keysOf, coeffsOf, wordsWith, coeffsWith, putKey, putCoeff, Stepped, Holds}
 use Rattle.branches.specs.Started.{Started, linesOf}
 use Rattle.rows.proofs.RowLaws.{length-key}
 use Rattle.rows.proofs.HoldLaws.{hold-start, hold-push, hold-room, hold-count}

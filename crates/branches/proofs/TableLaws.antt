@@ -12,9 +12,9 @@ use Rattle.terms.specs.declared.Found.the-variants.{Nothing}
 use Rattle.terms.specs.Rotation.{metBy, partnerBy}
 use Rattle.terms.proofs.FirstLaws.{first-ext}
 use Rattle.terms.proofs.AxisLaws.{partner-back}
-use Rattle.rows.specs.Rows.{keyAt}
-use Rattle.branches.specs.Pairs.{partnerRow, Table}
-use Rattle.branches.proofs.PairLaws.{seek-none}
+use Rattle.words.specs.Rows.{keyAt}
+use Rattle.branches.specs.Pairs.{mateOf, codeAt, partnerRow, Table}
+use Rattle.branches.proofs.PairLaws.{seek-none, told-same}
 
 -- row j's key is as it was or, in row i without a partner, turned into the partner's
 abbrev pub Shifted : Axis → ℕ → List ℕ → List ℕ → ℕ → ℕ → ℕ → Type 0
@@ -58,9 +58,9 @@ module _ (x : Axis) (w : ℕ) (ws vs : List ℕ) (n i buckets : ℕ) (ix : List 
   table-moved = record {
     room = T .room;
     on = T .on;
-    mates = λ k a h e.
-        T .mates k (omega arith) h (ap (metBy x) (sym (kept k a h)) ∙ e)
-        ∙ sym (first-ext (λ j. sameKey (N j) (P (N k))) (λ j. sameKey (K j) (P (K k))) n (alike k (omega arith) h));
+    mates = λ k a h.
+        told-same x w ws vs n n k (kept k a h) (λ e. first-ext (λ j. sameKey (N j) (P (N k))) (λ j. sameKey (K j) (P (K k))) n (alike k (omega arith) h))
+        (mateOf (codeAt buckets n ix k)) (T .mates k (omega arith) h);
     apart = λ k l a b h e q.
         T .apart k l (omega arith) b h (ap (metBy x) (sym (kept k a (omega arith))) ∙ e) (sym (kept k a (omega arith)) ∙ q ∙ kept l (omega arith) h);
   }

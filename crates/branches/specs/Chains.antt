@@ -10,19 +10,19 @@ use Rattle.terms.specs.declared.Found.{Found}
 use Rattle.terms.specs.declared.Found.the-variants.{At, Nothing}
 use Rattle.terms.specs.Branch.{first}
 use Rattle.terms.specs.Lists.{tab}
-use Rattle.rows.specs.Rows.{keyAt}
+use Rattle.words.specs.Rows.{keyAt}
 use Rattle.branches.specs.declared.Sought.{Sought}
 use Rattle.branches.specs.Probe.{soughtBy, files, soughtWord}
 
 -- ---- the hash
 
 -- One word taken into a hash. Nothing is used of it but that equal keys hash alike.
-unfoldable pub mixed : ℕ → ℕ → ℕ
-mixed h v = (h / 4294967296 + h % 4294967296 + v % 4294967296) % 4294967296 * 2135587861 + v / 4294967296 * 1640531527
+unfoldable pub stirred : ℕ → ℕ → ℕ
+stirred h v = (h / 4294967296 + h % 4294967296 + v % 4294967296) % 4294967296 * 2135587861 + v / 4294967296 * 1640531527
 
 unfoldable pub hashed : ℕ → Key → ℕ
 hashed h [] = h
-hashed h (v ∷ k) = hashed (mixed h v) k
+hashed h (v ∷ k) = hashed (stirred h v) k
 
 unfoldable pub spread : ℕ → ℕ → ℕ
 spread h buckets = (h / 4294967296 + h % 4294967296) % 4294967296 * buckets / 4294967296

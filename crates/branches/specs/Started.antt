@@ -12,7 +12,8 @@ use Rattle.terms.specs.Coefficient.{plusOf}
 use Rattle.numbers.specs.Constants.{zero64}
 use Rattle.terms.specs.Term.{Term}
 use Rattle.terms.specs.Start.{termOf}
-use Rattle.rows.specs.Rows.{keyAt, coeffAt, putKey, putCoeff, wordsWith, coeffsWith}
+use Rattle.words.specs.Rows.{keyAt}
+use Rattle.rows.specs.Rows.{coeffAt, putKey, putCoeff, wordsWith, coeffsWith}
 
 -- the terms of the first lines
 abbrev pub linesOf : ℕ → List ℕ → List Float → ℕ → List Term

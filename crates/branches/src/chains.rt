@@ -6,10 +6,10 @@ ghost use Prim.Native.Nat.{_+_, _*_, _≤_, _<_, min};
 ghost use lib.ListN.{length, replicate};
 ghost use Rattle.words.specs.Keys.{sameKey};
 ghost use Rattle.terms.specs.Branch.{first};
-ghost use Rattle.rows.specs.Rows.{keyAt};
+ghost use Rattle.words.specs.Rows.{keyAt};
 ghost use Rattle.rows.specs.Cleared.{filled};
 ghost use Rattle.branches.specs.Probe.{soughtBy, files};
-ghost use Rattle.branches.specs.Chains.{mixed, spread, classOf, bucketOf, pushed, foundOf, Linked, Filed, Indexed, Spare, Walked};
+ghost use Rattle.branches.specs.Chains.{stirred, spread, classOf, bucketOf, pushed, foundOf, Linked, Filed, Indexed, Spare, Walked};
 use crate::Sought;
 use crate::probe;
 use terms::Found;
@@ -22,7 +22,7 @@ pub(crate) fn wide(x: u32) -> usize
 
 // One word taken into a hash.
 fn mix(h: u64, v: u64) -> u64
-    ensures { λ r. ⌜ r ≡ mixed h v ⌝ }
+    ensures { λ r. ⌜ r ≡ stirred h v ⌝ }
 {
     let low = (h / 4294967296 + h % 4294967296 + v % 4294967296) % 4294967296;
     low * 2135587861 + v / 4294967296 * 1640531527

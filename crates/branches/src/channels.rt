@@ -11,7 +11,8 @@ ghost use Rattle.terms.specs.Met.{actsOnTwo, kindTargets};
 ghost use Rattle.branches.specs.Letters.{letterOf};
 ghost use Rattle.branches.specs.declared.Sought.the-variants.{Identity};
 ghost use Rattle.branches.specs.Chains.{Indexed, Spare};
-ghost use Rattle.rows.specs.Rows.{keyAt, termAt, termsIn, metIn, putCoeff, Room, Holds, Grown};
+ghost use Rattle.words.specs.Rows.{keyAt};
+ghost use Rattle.rows.specs.Rows.{termAt, termsIn, metIn, putCoeff, Room, Holds, Grown};
 use crate::Sought;
 use crate::chains;
 use crate::partners;
@@ -297,7 +298,7 @@ fn on_two(kind: ChannelKind) -> bool
 
 // Takes each of the first n terms backward through a channel, at a and, for a channel on two targets, b. The answer is the number of
 // terms, where there are 2 * n rows, else nothing changes; and how many of the first n had a letter on at least one target. Where none had,
-// nothing changes and no row is touched. What the memory of the index then holds is free.
+// nothing changes and no row is touched. What the memory of the index then holds is free, but for its length.
 pub fn apply_backward_channel(
     words: &mut [u64],
     coeffs: &mut [f64],
@@ -308,9 +309,9 @@ pub fn apply_backward_channel(
     a: usize,
     b: usize,
 ) -> Step
-    ensures { λ r. ⌜ (r .met ≡ metIn w (kindTargets (action .kind) a b) n (now (words .entry)) (now (coeffs .entry)))
+    ensures { λ r. ⌜ ((r .met ≡ metIn w (kindTargets (action .kind) a b) n (now (words .entry)) (now (coeffs .entry)))
         × Grown w n (channeled w a b action (termsIn (2 * w) n (now (words .entry)) (now (coeffs .entry)))) (r .count)
-        (now (words .entry)) (now (words .exit)) (now (coeffs .entry)) (now (coeffs .exit)) ⌝ }
+        (now (words .entry)) (now (words .exit)) (now (coeffs .entry)) (now (coeffs .exit))) × (length (now (index .exit)) ≡ length (now (index .entry))) ⌝ }
 {
     let kind = action.kind;
     let two = on_two(kind);

@@ -19,3 +19,13 @@ pub(crate) enum Sought {
     // The row with z flipped at a qubit.
     Identity(usize),
 }
+
+// What a rotation does at a row.
+pub(crate) enum Mate {
+    // Nothing: the row is not met, or its partner is before it, and the pair is done there.
+    Done,
+    // The row is met and has no partner.
+    Lone,
+    // The partner is a later row; and a number that is odd where the row's own Y letters are odd in number.
+    Later(usize, usize),
+}

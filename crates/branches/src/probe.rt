@@ -5,16 +5,16 @@ ghost use lib.ListN.{length};
 ghost use Rattle.words.specs.Keys.{sameKey};
 ghost use Rattle.terms.specs.Rotation.{metBy, onKey};
 ghost use Rattle.terms.specs.Branch.{first};
-ghost use Rattle.terms.specs.Letters.{isOdd};
+ghost use Rattle.words.specs.Letters.{isOdd};
 ghost use Rattle.terms.specs.Term.{oddY};
 ghost use Rattle.terms.specs.declared.Axis.the-variants.{Zz};
-ghost use Rattle.rows.specs.Rows.{keyAt};
+ghost use Rattle.words.specs.Rows.{keyAt};
 ghost use Rattle.branches.specs.Probe.{soughtBy, files, flippedWord, partnerWord, soughtWord};
 use crate::Sought;
 use terms::Axis;
 use terms::Found;
-use terms::parity::y_parity;
 use words::keys::get_bit;
+use words::letters::y_parity;
 
 // Whether a rotation meets a key.
 fn key_met(key: &[u64], axis: Axis) -> bool
@@ -37,10 +37,10 @@ pub(crate) fn row_met(words: &[u64], w: usize, i: usize, axis: Axis) -> bool
     key_met(&words[base..end], axis)
 }
 
-// Odd where the Y letters of row i are odd in number.
+// 1 where the Y letters of row i are odd in number, else 0.
 pub(crate) fn row_odd(words: &[u64], w: usize, i: usize) -> usize
     requires { ⌜ i * (2 * w) + 2 * w ≤ length (now words) ⌝ }
-    ensures { λ r. ⌜ isOdd r ≡ oddY w (keyAt (2 * w) (now (words .entry)) i) ⌝ }
+    ensures { λ r. ⌜ (isOdd r ≡ oddY w (keyAt (2 * w) (now (words .entry)) i)) × (r < 2) ⌝ }
 {
     let size = 2 * w;
     let base = i * size;

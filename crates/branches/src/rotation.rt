@@ -4,13 +4,14 @@ ghost use mathlib.Core.Bool.{not};
 ghost use mathlib.Core.List.{[], _∷_, map};
 ghost use Prim.Native.Nat.{_+_, _*_, _≤_, _<_};
 ghost use lib.ListN.{length};
-ghost use Rattle.terms.specs.Letters.{isOdd};
+ghost use Rattle.words.specs.Letters.{isOdd};
 ghost use Rattle.terms.specs.Rotation.{metBy, partnerBy, scaledMet, mixed};
 ghost use Rattle.terms.specs.Branch.{branchLone, branchRow, branchTo};
 ghost use Rattle.terms.specs.declared.Axis.the-variants.{Z, Zz};
 ghost use Rattle.rows.specs.Rows.{coeffAt, termAt, termsIn, metIn, putCoeff, Room, Holds};
 ghost use Rattle.branches.specs.Pairs.{Tabled};
 ghost use Rattle.branches.specs.Rotated.{Rotated};
+use crate::Mate;
 use crate::pairs;
 use crate::partners;
 use crate::probe;
@@ -19,7 +20,6 @@ use rows::letters::has_targets;
 use rows::letters::met_rows;
 use rows::row;
 use terms::Axis;
-use terms::Found;
 use terms::number;
 
 // Row i times the cosine, if it is met.
@@ -113,18 +113,15 @@ fn branch_row(
     ensures { λ r. ⌜ (m ≤ r) × (r ≤ m + 1) × Holds (2 * w) r r (branchRow w (metBy axis) (partnerBy w axis) sin cos n i (termsIn (2 * w) m (now (words .entry)) (now (coeffs .entry))))
         (now (words .entry)) (now (words .exit)) (now (coeffs .entry)) (now (coeffs .exit)) ⌝ }
 {
-    if !probe::row_met(words, w, i, axis) {
-        return m;
+    let mate = pairs::find(words, w, n, index, buckets, axis, i);
+    match mate {
+        Mate::Done => m,
+        Mate::Lone => lone_row(words, coeffs, w, m, i, axis, sin, cos),
+        Mate::Later(j, odd) => {
+            pair_rows(coeffs, i, j, odd, sin, cos);
+            m
+        }
     }
-    let found = pairs::find(words, w, n, index, buckets, axis, i);
-    let Found::At(j) = found else {
-        return lone_row(words, coeffs, w, m, i, axis, sin, cos);
-    };
-    if i < j {
-        let odd = probe::row_odd(words, w, i);
-        pair_rows(coeffs, i, j, odd, sin, cos);
-    }
-    m
 }
 
 fn branch_rows(
@@ -176,7 +173,7 @@ fn branch(
 
 // A rotation about Z at one qubit: t, tdg, rz and p. The answer is the number of terms, where there are 2 * n rows, else nothing changes; and how
 // many of the first n had a letter at the qubit. Where none had, nothing changes and no row is touched. What the memory of the index then holds
-// is free.
+// is free, but for its length.
 pub fn branch_z_rotation(
     words: &mut [u64],
     coeffs: &mut [f64],
@@ -187,8 +184,8 @@ pub fn branch_z_rotation(
     sin: f64,
     cos: f64,
 ) -> Step
-    ensures { λ r. ⌜ (r .met ≡ metIn w (qubit ∷ []) n (now (words .entry)) (now (coeffs .entry)))
-        × Rotated w n (Z qubit) sin cos (r .count) (now (words .entry)) (now (words .exit)) (now (coeffs .entry)) (now (coeffs .exit)) ⌝ }
+    ensures { λ r. ⌜ ((r .met ≡ metIn w (qubit ∷ []) n (now (words .entry)) (now (coeffs .entry)))
+        × Rotated w n (Z qubit) sin cos (r .count) (now (words .entry)) (now (words .exit)) (now (coeffs .entry)) (now (coeffs .exit))) × (length (now (index .exit)) ≡ length (now (index .entry))) ⌝ }
 {
     let met = met_rows(words, coeffs, w, n, false, qubit, 0);
     if met == 0 {
@@ -200,7 +197,7 @@ pub fn branch_z_rotation(
     Step { count, met }
 }
 
-// A rotation about ZZ at two qubits: rzz. The answer likewise. What the memory of the index then holds is free.
+// A rotation about ZZ at two qubits: rzz. The answer likewise. What the memory of the index then holds is free, but for its length.
 pub fn branch_zz_rotation(
     words: &mut [u64],
     coeffs: &mut [f64],
@@ -212,8 +209,8 @@ pub fn branch_zz_rotation(
     sin: f64,
     cos: f64,
 ) -> Step
-    ensures { λ r. ⌜ (r .met ≡ metIn w (a ∷ b ∷ []) n (now (words .entry)) (now (coeffs .entry)))
-        × Rotated w n (Zz a b) sin cos (r .count) (now (words .entry)) (now (words .exit)) (now (coeffs .entry)) (now (coeffs .exit)) ⌝ }
+    ensures { λ r. ⌜ ((r .met ≡ metIn w (a ∷ b ∷ []) n (now (words .entry)) (now (coeffs .entry)))
+        × Rotated w n (Zz a b) sin cos (r .count) (now (words .entry)) (now (words .exit)) (now (coeffs .entry)) (now (coeffs .exit))) × (length (now (index .exit)) ≡ length (now (index .entry))) ⌝ }
 {
     let met = met_rows(words, coeffs, w, n, true, a, b);
     if met == 0 {

@@ -1,17 +1,18 @@
 // The terms with which a run starts, from a table of lines: `keys` has 2 * w words to a line, `weights` one number.
 ghost use mathlib.Core.Path.{_≡_};
-ghost use mathlib.Core.Bool.{false, cond, _&&_};
+ghost use mathlib.Core.Bool.{cond, _&&_};
 ghost use mathlib.Core.List.{[], _∷_};
-ghost use Prim.Native.Nat.{_+_, _*_, _/_, _%_, _≤_, _<_, min};
+ghost use Prim.Native.Nat.{_+_, _*_, _/_, _%_, _≤_, _<_};
 ghost use lib.Dec.{leb, ltb};
 ghost use lib.Ieee.{neg};
 ghost use lib.ListN.{length};
-ghost use Rattle.words.specs.Keys.{bitAt, zAt, sameKey};
+ghost use Rattle.words.specs.Keys.{sameKey};
 ghost use Rattle.terms.specs.Branch.{first};
 ghost use Rattle.numbers.specs.Constants.{zero64};
 ghost use Rattle.terms.specs.Coefficient.{plusOf};
-ghost use Rattle.terms.specs.Start.{countY, ysOf, termOf, coalesced, merged};
-ghost use Rattle.rows.specs.Rows.{keyAt, coeffAt, termsIn, rowsIn, putKey, putCoeff, Room, Holds, Stepped};
+ghost use Rattle.terms.specs.Start.{termOf, coalesced, merged};
+ghost use Rattle.words.specs.Rows.{keyAt};
+ghost use Rattle.rows.specs.Rows.{coeffAt, termsIn, rowsIn, putKey, putCoeff, Room, Holds, Stepped};
 ghost use Rattle.branches.specs.declared.Sought.the-variants.{Same};
 ghost use Rattle.branches.specs.Chains.{Indexed, Spare};
 ghost use Rattle.branches.specs.Started.{SharedRow, Started, linesOf};
@@ -21,64 +22,8 @@ use rows::clear::clear_rows;
 use rows::row;
 use terms::Found;
 use terms::number;
-use words::keys::get_bit;
+use words::letters::y_quarters;
 use words::rows::rows_of;
-
-fn smaller(a: usize, b: usize) -> usize
-    ensures { λ r. ⌜ r ≡ min a b ⌝ }
-{
-    if a <= b { a } else { b }
-}
-
-// Whether qubit 64 * j + b has the letter Y.
-fn has_y(key: &[u64], w: usize, j: usize, b: usize) -> bool
-    requires { ⌜ w + j < length (now key) ⌝ }
-    ensures { λ r. ⌜ r ≡ (bitAt (now (key .entry)) (64 * j + b) && bitAt (now (key .entry)) (zAt w (64 * j + b))) ⌝ }
-{
-    let x = get_bit(key, j, b);
-    let z = get_bit(key, w + j, b);
-    if x { z } else { false }
-}
-
-fn add_y(quarters: u8, y: bool) -> u8
-    requires { ⌜ quarters < 4 ⌝ }
-    ensures { λ r. ⌜ r ≡ (cond y 1 0 + quarters) % 4 ⌝ }
-{
-    if y { (quarters + 1) % 4 } else { quarters }
-}
-
-// The quarter turns of the qubits before word j, and those of its 64 qubits.
-fn word_quarters(key: &[u64], w: usize, j: usize, before: u8) -> u8
-    requires { ⌜ (w + j < length (now key)) × (before ≡ countY w (64 * j) (now key) % 4) ⌝ }
-    ensures { λ r. ⌜ r ≡ countY w (64 * j + 64) (now (key .entry)) % 4 ⌝ }
-{
-    let mut quarters = before;
-    let mut b = 0;
-    while b < 64 {
-        let y = has_y(key, w, j, b);
-        quarters = add_y(quarters, y);
-        b += 1;
-    }
-    quarters
-}
-
-// How often a word's coefficient is turned by i: once for each Y, so a number modulo 4. A qubit that lies past the end has no letter.
-pub fn y_quarters(key: &[u64], w: usize) -> u8
-    ensures { λ r. ⌜ r ≡ ysOf w (now (key .entry)) % 4 ⌝ }
-{
-    let n = key.len();
-    if n <= w {
-        return 0;
-    }
-    let m = smaller(w, n - w);
-    let mut quarters = 0;
-    let mut j = 0;
-    while j < m {
-        quarters = word_quarters(key, w, j, quarters);
-        j += 1;
-    }
-    quarters
-}
 
 // The weight, negated for two or three quarter turns.
 fn signed(quarters: u8, weight: f64) -> f64
@@ -240,7 +185,7 @@ fn share_rows(
 }
 
 // Merges the first n terms: equal words share a row, in order of first appearance, their coefficients added from 0 in order. The rows
-// that this frees are set to zero. The answer is how many terms are left. What the memory of the index then holds is free.
+// that this frees are set to zero. The answer is how many terms are left. What the memory of the index then holds is free, but for its length.
 pub fn coalesce(
     words: &mut [u64],
     coeffs: &mut [f64],
@@ -249,7 +194,7 @@ pub fn coalesce(
     n: usize,
 ) -> usize
     ensures { λ r. ⌜ Stepped w n n n (coalesced (termsIn (2 * w) n (now (words .entry)) (now (coeffs .entry)))) r
-        (now (words .entry)) (now (words .exit)) (now (coeffs .entry)) (now (coeffs .exit)) ⌝ }
+        (now (words .entry)) (now (words .exit)) (now (coeffs .entry)) (now (coeffs .exit)) × (length (now (index .exit)) ≡ length (now (index .entry))) ⌝ }
 {
     if n == 0 {
         return 0;
@@ -264,7 +209,7 @@ pub fn coalesce(
 }
 
 // The terms of the first lines, two or more of them merged; the answer is how many terms there are. Without a row for each line, or
-// without all of the lines, nothing changes and the answer is 0. What the memory of the index then holds is free.
+// without all of the lines, nothing changes and the answer is 0. What the memory of the index then holds is free, but for its length.
 pub fn weighted_sum(
     words: &mut [u64],
     coeffs: &mut [f64],
@@ -277,7 +222,7 @@ pub fn weighted_sum(
     ensures { λ r. ⌜ Started (leb lines (rowsIn w (now (words .entry)) (now (coeffs .entry)))
         && (leb lines (length (now (keys .entry)) / (2 * w)) && leb lines (length (now (weights .entry)))))
         w lines (merged (linesOf w (now (keys .entry)) (now (weights .entry)) lines)) r
-        (now (words .entry)) (now (words .exit)) (now (coeffs .entry)) (now (coeffs .exit)) ⌝ }
+        (now (words .entry)) (now (words .exit)) (now (coeffs .entry)) (now (coeffs .exit)) × (length (now (index .exit)) ≡ length (now (index .entry))) ⌝ }
 {
     if row::rows_in(words.len(), coeffs.len(), w) < lines {
         return 0;

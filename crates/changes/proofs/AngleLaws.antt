@@ -4,15 +4,15 @@ use mathlib.Core.Path.{_≡_, refl, sym, ap, ap₂, _∙_}
 use mathlib.Core.Bool.{Bool, true, false, cond, not, _&&_}
 use mathlib.Core.List.{List, [], _∷_}
 use native.Mathlib.Omega.{arith}
-use lib.Dec.{leb, eqb, ltb}
+use lib.Dec.{leb, eqb}
 use borrow.Author.Tests.{eqb-false, lt-ltb}
 use Rattle.terms.proofs.CaseLaws.{and-true}
 use Rattle.layout.specs.declared.Head.{Head}
-use Rattle.layout.specs.Layout.{question1, termLines, opList}
-use Rattle.sheet.specs.declared.Asked.the-variants.{Two, Three, Four, Eleven}
+use Rattle.layout.specs.Layout.{question1, termLines, sheetOps}
+use Rattle.sheet.specs.declared.Asked.the-variants.{Two, Three, Four}
 use Rattle.sheet.specs.declared.Verdict.{Verdict}
 use Rattle.sheet.specs.declared.Verdict.the-variants.{RefusedAt, Passed}
-use Rattle.sheet.specs.Questions.{question5, question6, question7, refusedOr, lineOf, byQuestion, faultOf, firstFault, byLine, roomVerdict, verdict}
+use Rattle.sheet.specs.Questions.{question5, question6, question7, refusedOr, lineOf, faultOf, firstFault, byLine, roomVerdict, verdict}
 use Rattle.changes.specs.NoAngle.{unasked, earlier, brokenLine, noAngle, AnglesOnly}
 use Rattle.changes.proofs.ComparedLaws.{and-false, raised, RunsAlike, IsRaised, compared}
 
@@ -44,8 +44,8 @@ late-room h rows places = go (question7 h rows places)
 
 late-lines : (h : Head) (ls : List (List ℕ)) (v : Verdict) → early v ≡ false → early (byLine h ls v) ≡ false
 late-lines h ls v e =
-    late-walk (question5 h .term) (question6 .term) 7 (termLines h ls) (firstFault _ (8 + h .terms) (opList h ls) v)
-    (late-walk (question5 h .op) (question6 .op) (8 + h .terms) (opList h ls) v e)
+    late-walk (question5 h .term) (question6 .term) 7 (termLines h ls) (firstFault _ (8 + h .terms) (sheetOps h ls) v)
+    (late-walk (question5 h .op) (question6 .op) (8 + h .terms) (sheetOps h ls) v e)
 
 module _ (h : Head) (ls : List (List ℕ)) where
   -- 11 is put to what 1 to 4 pass

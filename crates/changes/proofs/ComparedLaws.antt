@@ -9,16 +9,16 @@ use lib.Ieee.{Float}
 use Rattle.words.specs.Keys.{widthOf}
 use Rattle.rows.specs.Rows.{rowsIn}
 use Rattle.text.specs.Bytes.{parts, newline}
-use Rattle.turns.specs.Turn.{Stage, refused, going, Outcome}
+use Rattle.dynamics.specs.Turn.{Stage, refused, going, Outcome}
 use Rattle.layout.specs.declared.Head.{Head}
-use Rattle.layout.specs.Layout.{headOf, opList}
+use Rattle.layout.specs.Layout.{headOf, sheetOps}
 use Rattle.replies.specs.Printed.{printed}
 use Rattle.sheet.specs.declared.Verdict.{Verdict}
 use Rattle.sheet.specs.declared.Verdict.the-variants.{RefusedAt, Passed}
 use Rattle.sheet.specs.Questions.{verdict}
-use Rattle.sheet.specs.Answer.{refusal, runOf, replyRun, replyTo, replyOf, meansTo, printedOf, LeavesBy, Untouched}
+use Rattle.sheet.specs.Answer.{refusal, runOf, replyRun, replyTo, replyOf, meansTo, printedOf, LeavesBy}
 use Rattle.sheet.specs.Screen.{bench}
-use Rattle.changes.specs.Compared.{Change, replyBefore, printedBefore, benchBefore, isMoved, movedTo, Remains, Compared}
+use Rattle.changes.specs.Compared.{Change, replyBefore, printedBefore, benchBefore, isMoved, movedTo, Compared}
 
 pub and-false : (b : Bool) → (b && false) ≡ false
 and-false true = refl
@@ -50,7 +50,7 @@ module _ (c : Change) (runs : RunsAlike c) where
     unfolding moves-of
     moves-passed = go (runOf h ls)
       where
-        go : (run : Stage Outcome) → c .moves h ls (replyRun (h .run) (opList h ls) run .status) (replyRun (h .run) (opList h ls) run .line) ≡ c .moves h ls 0 0
+        go : (run : Stage Outcome) → c .moves h ls (replyRun (h .run) (sheetOps h ls) run .status) (replyRun (h .run) (sheetOps h ls) run .line) ≡ c .moves h ls 0 0
         go (refused n) = runs h ls n
         go (going o) = refl
 

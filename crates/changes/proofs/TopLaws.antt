@@ -7,14 +7,14 @@ use mathlib.Core.List.{List, [], _∷_}
 use native.Mathlib.Omega.{arith}
 use lib.Dec.{eqb, ltb}
 use lib.ListN.{length, take, drop, length-map, length-take}
-use borrow.Author.Tests.{eqb-true, eq-eqb, ne-eqb, lt-ltb, le-ltb}
+use borrow.Author.Tests.{eqb-true, ne-eqb, lt-ltb, le-ltb}
 use Rattle.lines.specs.TermLines.{lineOn}
 use Rattle.layout.specs.declared.Head.{Head}
-use Rattle.layout.specs.Layout.{question1, termLines, opList}
+use Rattle.layout.specs.Layout.{question1, termLines, sheetOps}
 use Rattle.sheet.specs.declared.Asked.the-variants.{Two, Three, Four, Eleven}
 use Rattle.sheet.specs.declared.Verdict.{Verdict}
 use Rattle.sheet.specs.declared.Verdict.the-variants.{RefusedAt, Passed}
-use Rattle.sheet.specs.Questions.{question5, question6, question7, _orElse_, firstOf, refusedOr, lineOf, byQuestion, faultOf, opFault, firstFault, byLine, roomVerdict, verdict}
+use Rattle.sheet.specs.Questions.{question5, question6, question7, _orElse_, firstOf, refusedOr, lineOf, byQuestion, faultOf, firstFault, byLine, roomVerdict, verdict}
 use Rattle.changes.specs.TopLine.{outsideLine, repeatLine, oneByOne, topLine, TopLineFirst}
 use Rattle.changes.proofs.ComparedLaws.{and-false, raised, RunsAlike, IsRaised, compared}
 
@@ -102,7 +102,7 @@ by-line-is : (h : Head) (ls : List (List ℕ)) (v : Verdict) → byLine h ls v �
 unfolding top Late
 by-line-is h ls v =
     let ts = termLines h ls in
-    let os = opList h ls in
+    let os = sheetOps h ls in
     let k = 8 + h .terms in
     let p = question5 h .op in
     let q = question6 .op in

@@ -5,7 +5,7 @@ use mathlib.Core.Bool.{Bool, _&&_}
 use mathlib.Core.List.{List}
 use lib.Dec.{eqb, ltb}
 use Rattle.layout.specs.declared.Head.{Head}
-use Rattle.layout.specs.Layout.{termLines, opList}
+use Rattle.layout.specs.Layout.{termLines, sheetOps}
 use Rattle.sheet.specs.declared.Asked.the-variants.{Eleven}
 use Rattle.sheet.specs.declared.Verdict.{Verdict}
 use Rattle.sheet.specs.Questions.{question5, question6, firstNo, refusedOr, lineOf, byQuestion, roomVerdict}
@@ -13,10 +13,10 @@ use Rattle.changes.specs.Compared.{Change, Compared}
 
 -- the first line with a qubit outside, and the first with a repeat; 0 for none
 abbrev pub outsideLine : Head → List (List ℕ) → ℕ
-outsideLine h ls = firstNo (question5 h) (h .terms) (termLines h ls) (opList h ls)
+outsideLine h ls = firstNo (question5 h) (h .terms) (termLines h ls) (sheetOps h ls)
 
 abbrev pub repeatLine : Head → List (List ℕ) → ℕ
-repeatLine h ls = firstNo question6 (h .terms) (termLines h ls) (opList h ls)
+repeatLine h ls = firstNo question6 (h .terms) (termLines h ls) (sheetOps h ls)
 
 -- before: "Each is put to the whole sheet before the next, 1 to 7; the line returned is the first that fails"
 unfoldable pub oneByOne : Head → List (List ℕ) → ℕ → ℕ → Verdict

@@ -21,7 +21,7 @@ use Rattle.terms.specs.Rotation.{metBy, partnerBy, onKey}
 use Rattle.terms.proofs.AllLaws.{all-map}
 use Rattle.terms.proofs.AxisLaws.{partner-back, partner-met, partner-moves, partner-width}
 use Rattle.published.specs.declared.Complex64.{Complex64}
-use Rattle.published.specs.Complex.{complex, scaledOf, turnedOf, coeffOf}
+use Rattle.published.specs.Complex.{complex, scaledOf, quarterTurned, coeffOf}
 use Rattle.published.specs.Term.{Term, term, find, conjugated, complexOf}
 use Rattle.published.specs.Rotation.{flippedTerm, turnedTerm, appendedTerm, appendedRows, rotated}
 use Rattle.published.specs.Mean.{addMean}
@@ -35,20 +35,20 @@ use Rattle.heisenberg.proofs.MeanLaws as M
 
 module _ (w c : ℕ) where
   abbrev byTurns : Axis → Term → ℕ → Complex64
-  byTurns axis t n = turnedOf (cond (bitAt (baseOf w axis (t .key)) (placeOf axis)) n 0) (t .coeff)
+  byTurns axis t n = quarterTurned (cond (bitAt (baseOf w axis (t .key)) (placeOf axis)) n 0) (t .coeff)
 
   s-at : (axis : Axis) (t : Term) → through w G.S c axis t ≡ term (keyThrough w G.S c axis (t .key)) (byTurns axis t 3)
-  unfolding conjugated turnedOf
+  unfolding conjugated quarterTurned
   s-at (Z q) t = refl
   s-at (Zz a b) t = refl
 
   sdg-at : (axis : Axis) (t : Term) → through w G.Sdg c axis t ≡ term (keyThrough w G.Sdg c axis (t .key)) (byTurns axis t 1)
-  unfolding conjugated turnedOf
+  unfolding conjugated quarterTurned
   sdg-at (Z q) t = refl
   sdg-at (Zz a b) t = refl
 
   z-at : (axis : Axis) (t : Term) → through w G.Z c axis t ≡ term (keyThrough w G.Z c axis (t .key)) (byTurns axis t 2)
-  unfolding conjugated turnedOf
+  unfolding conjugated quarterTurned
   z-at (Z q) t = refl
   z-at (Zz a b) t = refl
 
@@ -63,21 +63,21 @@ module _ (w : ℕ) (axis : Axis) (c : ℕ) (on : onKey w axis ≡ true) where
     abbrev k : Key
     k = t .key
 
-    turns-by : (n : ℕ) (v : Complex64) {b : Bool} → met k ≡ b → turnedOf (cond (bitAt (baseOf w axis k) (placeOf axis)) n 0) v ≡ turnedOf (cond b n 0) v
-    turns-by n v e = ap (λ (x : Bool). turnedOf (cond x n 0) v) (base-met w c axis k on (wide .long) ∙ e)
+    turns-by : (n : ℕ) (v : Complex64) {b : Bool} → met k ≡ b → quarterTurned (cond (bitAt (baseOf w axis k) (placeOf axis)) n 0) v ≡ quarterTurned (cond b n 0) v
+    turns-by n v e = ap (λ (x : Bool). quarterTurned (cond x n 0) v) (base-met w c axis k on (wide .long) ∙ e)
 
     -- turned 0 times, a coefficient is as it was
-    unturned : (v : Complex64) → turnedOf 0 v ≡ v
-    unfolding turnedOf
+    unturned : (v : Complex64) → quarterTurned 0 v ≡ v
+    unfolding quarterTurned
     unturned v = refl
 
-    s-met : (v : Complex64) → met k ≡ true → through w G.S c axis (term k v) ≡ term (partner k) (turnedOf 3 v)
+    s-met : (v : Complex64) → met k ≡ true → through w G.S c axis (term k v) ≡ term (partner k) (quarterTurned 3 v)
     s-met v e = s-at w c axis (term k v) ∙ ap₂ term (key-met w c axis k on (wide .long) e) (turns-by 3 v e)
 
     s-unmet : met k ≡ false → through w G.S c axis t ≡ t
     s-unmet e = s-at w c axis t ∙ ap₂ term (key-unmet w c axis k on (wide .long) (wide .words) e) (turns-by 3 (t .coeff) e ∙ unturned (t .coeff))
 
-    sdg-met : met k ≡ true → through w G.Sdg c axis t ≡ term (partner k) (turnedOf 1 (t .coeff))
+    sdg-met : met k ≡ true → through w G.Sdg c axis t ≡ term (partner k) (quarterTurned 1 (t .coeff))
     sdg-met e = sdg-at w c axis t ∙ ap₂ term (key-sdg w c axis k ∙ key-met w c axis k on (wide .long) e) (turns-by 1 (t .coeff) e)
 
     sdg-unmet : met k ≡ false → through w G.Sdg c axis t ≡ t
@@ -85,7 +85,7 @@ module _ (w : ℕ) (axis : Axis) (c : ℕ) (on : onKey w axis ≡ true) where
         sdg-at w c axis t
         ∙ ap₂ term (key-sdg w c axis k ∙ key-unmet w c axis k on (wide .long) (wide .words) e) (turns-by 1 (t .coeff) e ∙ unturned (t .coeff))
 
-    z-met : {b : Bool} → met k ≡ b → through w G.Z c axis t ≡ term k (turnedOf (cond b 2 0) (t .coeff))
+    z-met : {b : Bool} → met k ≡ b → through w G.Z c axis t ≡ term k (quarterTurned (cond b 2 0) (t .coeff))
     z-met e = z-at w c axis t ∙ ap₂ term (key-z w c axis k on (wide .long) (wide .words)) (turns-by 2 (t .coeff) e)
 
     -- ---- the rotation of a sum of one term, which has no partner
@@ -121,7 +121,7 @@ module _ (w : ℕ) (axis : Axis) (c : ℕ) (on : onKey w axis ≡ true) where
           go false = refl
 
       sends : met k ≡ true → flipped ≡ through w G.S c axis (times sin t)
-      unfolding turnedOf
+      unfolding quarterTurned
       sends e = sym (s-met (scaledOf sin (t .coeff)) e)
 
   module _ (sin cos : Float) (t : Term) (wide : OnWidth w t) where
@@ -153,13 +153,13 @@ module _ (w : ℕ) (axis : Axis) (c : ℕ) (on : onKey w axis ≡ true) where
     by-one : scaledOf one64 (t .coeff) ≡ t .coeff
     by-one = ap₂ complex (times-one (t .coeff .re) real) (times-one (t .coeff .im) imaginary)
 
-    by-minus-one : scaledOf minusOne64 (t .coeff) ≡ turnedOf 2 (t .coeff)
-    unfolding turnedOf
+    by-minus-one : scaledOf minusOne64 (t .coeff) ≡ quarterTurned 2 (t .coeff)
+    unfolding quarterTurned
     by-minus-one = ap₂ complex (times-minus-one (t .coeff .re) real) (times-minus-one (t .coeff .im) imaginary)
 
     -- s of the negative is sdg
-    opposite : (v : Complex64) → turnedOf 3 (turnedOf 2 v) ≡ turnedOf 1 v
-    unfolding turnedOf
+    opposite : (v : Complex64) → quarterTurned 3 (quarterTurned 2 v) ≡ quarterTurned 1 v
+    unfolding quarterTurned
     opposite v = ap (complex (neg (v .im))) (neg-neg (v .re))
 
     at-quarters : AtQuarters w axis c zero t
@@ -171,7 +171,7 @@ module _ (w : ℕ) (axis : Axis) (c : ℕ) (on : onKey w axis ≡ true) where
               ∙ ap (λ (r : Term). r ∷ []) (sends t wide one64 zero e ∙ ap (λ (v : Complex64). through w G.S c axis (term (t .key) v)) by-one);
           back = alone-met t wide minusOne64 zero e ∙ only-sine minusOne64 _ _ minus-not-zero
               ∙ ap (λ (r : Term). r ∷ []) (sends t wide minusOne64 zero e ∙ s-met t wide (scaledOf minusOne64 (t .coeff)) e
-              ∙ ap (term (partner (t .key))) (ap (turnedOf 3) by-minus-one ∙ opposite (t .coeff)) ∙ sym (sdg-met t wide e));
+              ∙ ap (term (partner (t .key))) (ap (quarterTurned 3) by-minus-one ∙ opposite (t .coeff)) ∙ sym (sdg-met t wide e));
           half = alone-met t wide zero minusOne64 e ∙ only-cosine minusOne64 _ _ ∙ ap (λ (r : Term). r ∷ []) (ap (term (t .key)) by-minus-one ∙ sym (z-met t wide e));
         }
         go false e = record {

@@ -8,7 +8,7 @@ use native.Mathlib.Omega.{arith}
 use native.Mathlib.Decide.{ℕ-discrete}
 use borrow.Author.Tests.{eq-eqb, ne-eqb}
 use Rattle.words.specs.Keys.{Key, bitAt, zAt}
-use Rattle.terms.specs.Letters.{countY}
+use Rattle.words.specs.Letters.{countY}
 use Rattle.heisenberg.specs.TableauRow.{put}
 
 -- ---- one bit replaced

@@ -15,7 +15,7 @@ use Rattle.words.proofs.GateLaws.{conjKey-flips, conjKey-length, conjKey-bits}
 use Rattle.words.proofs.InverseLaws.{inverse-key}
 use Rattle.terms.specs.declared.Axis.{Axis}
 use Rattle.terms.specs.declared.Axis.the-variants.{Z, Zz}
-use Rattle.terms.specs.Letters.{ysOf}
+use Rattle.words.specs.Letters.{ysOf}
 use Rattle.terms.specs.Term.{oddY}
 use Rattle.terms.specs.Rotation.{metBy, partnerBy, onKey}
 use Rattle.terms.proofs.YLaws.{on-both, odd-same, conjugated-ys}

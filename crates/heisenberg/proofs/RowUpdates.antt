@@ -11,7 +11,7 @@ use Rattle.words.specs.Keys.{Key, _⊕_, bitAt, zAt}
 use Rattle.words.specs.declared.Bits as B
 use Rattle.words.specs.declared.Gate.{Gate}
 use Rattle.words.specs.Gates.{hasTwoTargets, conjBits, conjPhase, bitsAt, conjKey}
-use Rattle.terms.specs.Letters.{ysOf}
+use Rattle.words.specs.Letters.{ysOf}
 use Rattle.words.specs.Tableau.{Signed, published, ys, half}
 use Rattle.words.proofs.EveryGate as E
 use Rattle.words.proofs.GateLaws.{changed, changed-x, changed-z, own-x, own-z, xor-back, moved-first, conjKey-bits, conjKey-other}

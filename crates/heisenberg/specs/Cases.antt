@@ -8,7 +8,7 @@ use Rattle.words.specs.declared.Gate.the-variants as G
 use Rattle.words.specs.Keys.{Key, bitOf, flipOf, bitAt, flipAt, sameKey}
 use Rattle.words.specs.Gates.{conjKey}
 use Rattle.terms.specs.declared.Axis.the-variants.{Z, Zz}
-use Rattle.terms.specs.Letters.{countY}
+use Rattle.words.specs.Letters.{countY}
 use Rattle.terms.specs.Lists.{tab, foldl}
 use Rattle.terms.specs.Term.{term, find, conjugated}
 use Rattle.terms.specs.Rotation.{metBy, partnerBy, appendedRows, rotated}

@@ -9,7 +9,7 @@ use Rattle.words.specs.declared.Gate.{Gate}
 use Rattle.words.specs.Keys.{Key, bitAt, zAt}
 use Rattle.words.specs.Gates.{mk, bitsAt, conjKey, conjPhase, Targets}
 use Rattle.words.specs.Tableau.{Signed, published, half}
-use Rattle.terms.specs.Letters.{ysOf}
+use Rattle.words.specs.Letters.{ysOf}
 
 pub record Row : Type 0 where
   pub x : ℕ → Bool

@@ -18,7 +18,7 @@ use Rattle.terms.specs.Term.{Term, term}
 use Rattle.terms.specs.Channel.{actionOf, insert, channeled, scaledLetter, scaledEither, branch}
 use Rattle.kraus.specs.Formula.{rounded}
 use Rattle.kraus.specs.Operators.{I, Z}
-use Rattle.kraus.specs.Channels.{Channel, Pauli, Depol, Damp, Phase, Thermal, toIdentity, roundedAction, roundedAction2, mixed}
+use Rattle.kraus.specs.Channels.{Channel, Pauli, Depol, Damp, Phase, Thermal, toIdentity, roundedAction, roundedAction2, eitherLetter}
 use Rattle.kraus.specs.Letters.{letterOf, letterAt, byLetter, identityBy, sent, byLetters, sent2, noisy}
 
 -- ---- the two readings: a channel's action is the rounded formulas
@@ -72,11 +72,11 @@ branched w q f us t = go (bitAt (t .key) q) (bitAt (t .key) (zAt w q))
     go true true = refl
 
 scaled-either : (rs : List Float) (w a b : ℕ) (t : Term)
-    → scaledEither w a b (rounded rs mixed) t ≡ byLetters rs (letterAt w a (t .key)) (letterAt w b (t .key)) t
+    → scaledEither w a b (rounded rs eitherLetter) t ≡ byLetters rs (letterAt w a (t .key)) (letterAt w b (t .key)) t
 scaled-either rs w a b t = go (bitAt (t .key) a) (bitAt (t .key) (zAt w a)) (bitAt (t .key) b) (bitAt (t .key) (zAt w b))
   where
     go : (x z u v : Bool)
-        → cond ((x || z) || (u || v)) (term (t .key) (scaledOf (rounded rs mixed) (t .coeff))) t ≡ byLetters rs (letterOf x z) (letterOf u v) t
+        → cond ((x || z) || (u || v)) (term (t .key) (scaledOf (rounded rs eitherLetter) (t .coeff))) t ≡ byLetters rs (letterOf x z) (letterOf u v) t
     go false false false false = refl
     go false false false true = refl
     go false false true false = refl

@@ -172,22 +172,22 @@ abbrev pub reals2 : List Formula
 reals2 = (number 15 ⊠ real 0) ∷ []
 
 -- a pair with a letter other than I anticommutes with eight of the fifteen
-abbrev pub mixed : Formula
-mixed = one ⊟ number 16 ⊠ real 0 ÷ 15
+abbrev pub eitherLetter : Formula
+eitherLetter = one ⊟ number 16 ⊠ real 0 ÷ 15
 
 abbrev pub multiplier2 : Letter → Letter → Formula
 multiplier2 I I = one
-multiplier2 I X = mixed
-multiplier2 I Y = mixed
-multiplier2 I Z = mixed
-multiplier2 X m = mixed
-multiplier2 Y m = mixed
-multiplier2 Z m = mixed
+multiplier2 I X = eitherLetter
+multiplier2 I Y = eitherLetter
+multiplier2 I Z = eitherLetter
+multiplier2 X m = eitherLetter
+multiplier2 Y m = eitherLetter
+multiplier2 Z m = eitherLetter
 
 -- in binary64
 abbrev pub roundedAction2 : List Float → ChannelAction
 roundedAction2 rs =
-    let l = rounded rs mixed in
+    let l = rounded rs eitherLetter in
     record { kind = Depolarizing2q; lambda = l ∷ l ∷ l ∷ []; «z_to_identity» = rounded rs nil }
 
 module _ (N : Arithmetic) (value : Formula → N .Number) where

@@ -5,7 +5,7 @@ use mathlib.Core.List.{List, []}
 use lib.Ieee.{Float}
 use lib.ListN.{getD}
 use Rattle.text.specs.Bytes.{bytes, parts, newline}
-use Rattle.runs.specs.declared.Run.{Run}
+use Rattle.ops.specs.declared.Run.{Run}
 use Rattle.lines.specs.Fields.{count, realField, runField, orZero, orZeroReal, orFull}
 use Rattle.layout.specs.Cursor.{lineAt, nextAt, startAt}
 use Rattle.layout.specs.Layout.{headOf}

@@ -11,9 +11,8 @@ use borrow.Author.Tests.{ltb-true, ltb-false, leb-true, leb-false, eqb-true, eqb
 use Rattle.terms.proofs.CaseLaws.{and-true}
 use Rattle.layout.specs.declared.Head.{Head}
 use Rattle.layout.specs.declared.Kind.{Kind}
-use Rattle.layout.specs.declared.Kind.the-variants.{AQubits, ARun, AnEpsilon, AMaxTerms, ALimit, ATerms}
-use Rattle.layout.specs.declared.Kind.the-variants.{ATerm, AnOps, AnOp, Beyond}
-use Rattle.layout.specs.Layout.{headKind, laterKind, kind, isLaidOut, isBeyond, badLine, question1, termLines, opList}
+use Rattle.layout.specs.declared.Kind.the-variants.{AQubits, ARun, AnEpsilon, AMaxTerms, ALimit, ATerms, ATerm, AnOps, AnOp, Beyond}
+use Rattle.layout.specs.Layout.{headKind, laterKind, kind, isLaidOut, isBeyond, badLine, question1, termLines, sheetOps}
 
 -- ---- which lines are beyond the last
 head-within : (k : ℕ) → isBeyond (headKind k) ≡ false
@@ -94,7 +93,7 @@ term-lines-length h ls e =
     let n = laid-length h ls e in
     length-map (take (h .terms) (drop 6 ls)) _ ∙ part-length (h .terms) 6 ls (omega arith)
 
-pub op-list-length : (h : Head) (ls : List (List ℕ)) → question1 h ls ≡ 0 → length (opList h ls) ≡ h .ops
+pub op-list-length : (h : Head) (ls : List (List ℕ)) → question1 h ls ≡ 0 → length (sheetOps h ls) ≡ h .ops
 op-list-length h ls e =
     let n = laid-length h ls e in
     length-map (take (h .ops) (drop (7 + h .terms) ls)) _ ∙ part-length (h .ops) (7 + h .terms) ls (omega arith)

@@ -17,19 +17,20 @@ use Rattle.words.proofs.RowSteps.{part-is, part-back}
 use Rattle.terms.specs.Lists.{tab, foldl}
 use Rattle.terms.proofs.ListLaws.{length-tab, getD-tab, tab-snoc, tab-ext, map-tab}
 use Rattle.terms.proofs.CaseLaws.{leb-iff, and-true, and-false}
-use Rattle.rows.specs.Rows.{keyAt, putKey}
+use Rattle.words.specs.Rows.{keyAt}
+use Rattle.rows.specs.Rows.{putKey}
 use Rattle.rows.proofs.RowLaws.{row-before, drop-more, length-key}
-use Rattle.turns.specs.declared.Op.{Op}
-use Rattle.turns.specs.OpList as slices
-use Rattle.turns.specs.OpList.{partsOf, opRoom, opCount, opsIn, codesPut, realsPut}
-use Rattle.turns.proofs.OpListLaws.{filled-none, filled-next, filled-all}
-use Rattle.runs.specs.Table as table
+use Rattle.ops.specs.declared.Op.{Op}
+use Rattle.ops.specs.OpList as slices
+use Rattle.ops.specs.OpList.{partsOf, opRoom, opCount, opsIn, codesPut, realsPut}
+use Rattle.ops.proofs.OpListLaws.{filled-none, filled-next, filled-all}
+use Rattle.ops.specs.LineTable as table
 use Rattle.lines.specs.OpLines.{opOn}
 use Rattle.lines.specs.TermLines.{weightOn, factorsOn, lineOn, placed, wordLine}
 use Rattle.lines.proofs.WordLaws.{length-all}
 use Rattle.layout.specs.declared.Head.{Head}
 use Rattle.layout.specs.Cursor.{lineAt, startAt}
-use Rattle.layout.specs.Layout.{question1, termLines, opList}
+use Rattle.layout.specs.Layout.{question1, termLines, sheetOps}
 use Rattle.layout.specs.Loaded.{opLine, codesOf, realsOf, codesWith, realsWith, OpsLoaded, rowWith, keysWith, weightsWith, holdsLines, LinesLoaded}
 use Rattle.layout.proofs.CursorLaws.{line-there, start-add}
 use Rattle.layout.proofs.LaidLaws.{laid-length}
@@ -328,7 +329,7 @@ module _ (h : Head) (ls : List (List ℕ)) (cs cs′ : List ℕ) (rs rs′ : Lis
   ops-reals-long = reals-long (opLine h ls) cs rs count (omega arith) (L .reals)
 
   -- if both slices hold all ops, which are at most 4,096, and the sheet is laid out, then its op list is read from them
-  pub ops-loaded : 3 * h .ops ≤ length cs → 3 * h .ops ≤ length rs → h .ops ≤ 4096 → question1 h ls ≡ 0 → slices.opList (h .ops) cs′ rs′ ≡ opList h ls
+  pub ops-loaded : 3 * h .ops ≤ length cs → 3 * h .ops ≤ length rs → h .ops ≤ 4096 → question1 h ls ≡ 0 → slices.opList (h .ops) cs′ rs′ ≡ sheetOps h ls
   ops-loaded hc hr few laid =
       let f : ℕ → Op = opLine h ls in
       let all : count ≡ min (h .ops) 4096 = omega (arith, hc, hr, few) in
@@ -360,7 +361,7 @@ module _ (w : ℕ) (h : Head) (ls : List (List ℕ)) (K K′ : List ℕ) (W W′
 
   -- if both buffers hold all `term` lines, the words were zero and the sheet is laid out, then the table has the `term` lines of the sheet
   pub lines-loaded : h .terms * (2 * w) ≤ length K → h .terms ≤ length W → K ≡ replicate (length K) 0 → question1 h ls ≡ 0
-      → tab (h .terms) (table.lineAt w K′ W′) ≡ map (wordLine w) (termLines h ls)
+      → tab (h .terms) (table.tableLine w K′ W′) ≡ map (wordLine w) (termLines h ls)
   unfolding lineOn zeros keysWith weightsWith
   lines-loaded room has clear laid =
       let long : length ls ≡ 8 + h .terms + h .ops = laid-length h ls laid in
@@ -378,6 +379,6 @@ module _ (w : ℕ) (h : Head) (ls : List (List ℕ)) (K K′ : List ℕ) (W W′
       λ j l. ap (λ (x : List Float). getD x j nan) ew
       ∙ List·getD-append (tab (h .terms) weight) (drop (h .terms) W) nan j (subst (λ (n : ℕ). j < n) (sym (length-tab (h .terms) weight)) l)
       ∙ getD-tab (h .terms) weight j nan l in
-      tab-ext (h .terms) (table.lineAt w K′ W′) (λ j. wordLine w (lineOn (getD ls (6 + j) []))) (λ j l k. record { key = word j l k; weight = number j l k })
+      tab-ext (h .terms) (table.tableLine w K′ W′) (λ j. wordLine w (lineOn (getD ls (6 + j) []))) (λ j l k. record { key = word j l k; weight = number j l k })
       ∙ sym (map-tab (h .terms) (λ j. lineOn (getD ls (6 + j) [])) (wordLine w))
       ∙ ap (map (wordLine w)) (tab-lines lineOn ls 6 (h .terms) (omega (arith, long)))

@@ -5,11 +5,10 @@ use mathlib.Core.List.{List, [], _∷_, map}
 use lib.Dec.{ltb, eqb}
 use lib.ListN.{length, take, drop, getD}
 use Rattle.text.specs.Bytes.{bytes}
-use Rattle.turns.specs.declared.Op.{Op}
+use Rattle.ops.specs.declared.Op.{Op}
 use Rattle.layout.specs.declared.Head.{Head}
 use Rattle.layout.specs.declared.Kind.{Kind}
-use Rattle.layout.specs.declared.Kind.the-variants.{AQubits, ARun, AnEpsilon, AMaxTerms, ALimit, ATerms}
-use Rattle.layout.specs.declared.Kind.the-variants.{ATerm, AnOps, AnOp, Beyond}
+use Rattle.layout.specs.declared.Kind.the-variants.{AQubits, ARun, AnEpsilon, AMaxTerms, ALimit, ATerms, ATerm, AnOps, AnOp, Beyond}
 use Rattle.lines.specs.Fields.{count, realField, runField, isNumber, isReal, isRun, orZero, orZeroReal, orFull}
 use Rattle.lines.specs.TermLines.{TermLine, isTermLine, lineOn}
 use Rattle.lines.specs.OpLines.{isOpLine, opOn}
@@ -86,5 +85,5 @@ question1 h ls = badLine (h .terms) (h .ops) ls 1
 abbrev pub termLines : Head → List (List ℕ) → List TermLine
 termLines h ls = map lineOn (take (h .terms) (drop 6 ls))
 
-abbrev pub opList : Head → List (List ℕ) → List Op
-opList h ls = map opOn (take (h .ops) (drop (7 + h .terms) ls))
+abbrev pub sheetOps : Head → List (List ℕ) → List Op
+sheetOps h ls = map opOn (take (h .ops) (drop (7 + h .terms) ls))

@@ -9,9 +9,9 @@ use lib.ListN.{length, drop, getD}
 use lib.Ieee.{Float}
 use Rattle.words.specs.Keys.{Key}
 use Rattle.terms.specs.Lists.{tab, foldl}
-use Rattle.rows.specs.Rows.{keyAt}
-use Rattle.turns.specs.declared.Op.{Op}
-use Rattle.turns.specs.OpList.{partsOf, opCount}
+use Rattle.words.specs.Rows.{keyAt}
+use Rattle.ops.specs.declared.Op.{Op}
+use Rattle.ops.specs.OpList.{partsOf, opCount}
 use Rattle.lines.specs.OpLines.{opOn}
 use Rattle.lines.specs.TermLines.{weightOn, factorsOn, placed}
 use Rattle.layout.specs.declared.Head.{Head}

@@ -9,7 +9,7 @@ use lines::fields::or_zero_real;
 use lines::fields::read_count;
 use lines::fields::read_real_field;
 use lines::fields::read_run;
-use runs::Run;
+use ops::Run;
 ghost use mathlib.Core.Path.{_≡_};
 ghost use Rattle.text.specs.Bytes.{bytes, parts, newline};
 ghost use Rattle.lines.specs.Fields.{count, realField, runField, orZero, orZeroReal, orFull};

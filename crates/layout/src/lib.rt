@@ -1,6 +1,6 @@
 // All lines of a sheet: question 1, and the values that the other questions and the runs take.
 
-use runs::Run;
+use ops::Run;
 
 // The values of the lines `qubits` to `terms`, and `ops`.
 pub struct Head {

@@ -5,8 +5,9 @@ ghost use lib.Dec.{leb};
 ghost use lib.ListN.{length, set};
 ghost use Rattle.text.specs.Bytes.{parts, newline};
 ghost use Rattle.terms.specs.Lists.{foldl};
-ghost use Rattle.rows.specs.Rows.{keyAt, putKey};
-ghost use Rattle.turns.specs.OpList.{opRoom};
+ghost use Rattle.words.specs.Rows.{keyAt};
+ghost use Rattle.rows.specs.Rows.{putKey};
+ghost use Rattle.ops.specs.OpList.{opRoom};
 ghost use Rattle.lines.specs.OpLines.{opOn};
 ghost use Rattle.lines.specs.TermLines.{weightOn, factorsOn, placed};
 ghost use Rattle.layout.specs.Cursor.{lineAt, startAt};
@@ -18,8 +19,8 @@ use crate::cursor::start_at;
 use lines::oplines::op_on;
 use lines::termlines::place_factors;
 use lines::termlines::weight_on;
-use turns::oplist::op_count;
-use turns::oplist::put_op;
+use ops::oplist::op_count;
+use ops::oplist::put_op;
 use words::rows::rows_of;
 
 // Writes the ops on the n lines from a place on to the first n places of two slices.

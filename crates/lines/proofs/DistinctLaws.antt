@@ -10,8 +10,8 @@ use lib.Dec.{ltb, eqb}
 use lib.ListN.{length, getD, set, replicate, length-set, length-replicate, getD-replicate, List·getD-eq-default}
 use lib.Seq.{getD-set-same, getD-set-other}
 use Rattle.terms.proofs.CaseLaws.{lt-or-le}
-use Rattle.turns.specs.Runs.{member}
-use Rattle.runs.specs.Task.{every}
+use Rattle.ops.specs.Marks.{member}
+use Rattle.ops.specs.Task.{every}
 use Rattle.lines.specs.TermLines.{allBelow, distinct}
 
 -- seen has 256 booleans
@@ -91,3 +91,7 @@ module _ (seen : List Bool) (x q : ℕ) (e : q ≡ x) where
     pub fresh-next : getD seen q false ≡ false → (qs : List ℕ) → fresh seen (x ∷ qs) ≡ fresh (set seen q true) qs
     unfolding fresh
     fresh-next s qs = rw (← e, lt-ltb q 256 h, s)
+
+-- a test that is another where a condition holds
+pub where-holds : {r a d : Bool} → r ≡ (a && d) → (r ≡ (a && d)) × (a ≡ true → r ≡ d)
+where-holds {r} {a} {d} e = (e, λ h. e ∙ ap (λ (b : Bool). b && d) h)

@@ -6,7 +6,7 @@ use lib.Ieee.{Float, ofBits, binary64}
 use Rattle.words.specs.declared.Gate.the-variants.{Id, X, Y, Z, H, S, Sdg, Sx, Sxdg, Cx, Cz, Swap}
 use Rattle.text.specs.Bytes.{bytes, index, begins}
 use Rattle.text.specs.Numerals.{steps, nextDigit, decimal, hexDigit, nextHex, hex16}
-use Rattle.turns.specs.declared.Op.the-variants as O
+use Rattle.ops.specs.declared.Op.the-variants as O
 use Rattle.lines.specs.declared.OpRead.{OpRead}
 use Rattle.lines.specs.declared.OpRead.the-variants.{IsOp, NotOp}
 use Rattle.lines.specs.OpLines.{nameOf, targetsIn, realsIn, opAfter, op}

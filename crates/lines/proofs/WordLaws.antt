@@ -14,7 +14,7 @@ use Rattle.words.proofs.KeyLaws.{setAt-keeps, setAt-length, setAt-words}
 use Rattle.words.proofs.LetterLaws.{letter, letter-flip-x, letter-flip-z}
 use Rattle.terms.specs.Lists.{foldl}
 use Rattle.terms.proofs.CaseLaws.{lt-or-le, and-true, cond-cases}
-use Rattle.runs.specs.Task.{every, lettersBelow, qubitsOf}
+use Rattle.ops.specs.Task.{every, lettersBelow, qubitsOf}
 use Rattle.lines.proofs.DistinctLaws.{cleared}
 use Rattle.lines.specs.TermLines.{Factor, setsX, setsZ, factorOf, setIf, placed, wordOf, qubitsIn, allBelow}
 

@@ -11,8 +11,8 @@ use Rattle.text.specs.declared.Real.{Real}
 use Rattle.text.specs.declared.Real.the-variants.{Value, NotReal}
 use Rattle.text.specs.Bytes.{bytes, begins, same}
 use Rattle.text.specs.Numerals.{decimal, real}
-use Rattle.runs.specs.declared.Run.{Run}
-use Rattle.runs.specs.declared.Run.the-variants.{Full, Cone, All, Path, Wide}
+use Rattle.ops.specs.declared.Run.{Run}
+use Rattle.ops.specs.declared.Run.the-variants.{Full, Cone, All, Path, Wide}
 use Rattle.lines.specs.declared.RunRead.{RunRead}
 use Rattle.lines.specs.declared.RunRead.the-variants.{IsRun, NotRun}
 

@@ -9,8 +9,8 @@ use Rattle.words.specs.Keys.{Key, setAt, zAt, noLetters}
 use Rattle.terms.specs.Lists.{foldl}
 use Rattle.text.specs.Bytes.{bytes, parts, index, before, after, comma, colon, begins}
 use Rattle.text.specs.Numerals.{decimal, real}
-use Rattle.turns.specs.Runs.{member}
-use Rattle.runs.specs.Task.{Line, every}
+use Rattle.ops.specs.Marks.{member}
+use Rattle.ops.specs.Task.{Line, every}
 use Rattle.lines.specs.Fields.{isNumber, isReal, orZero, orZeroReal}
 
 -- X, Y, Z are the bytes 88, 89, 90

@@ -1,6 +1,6 @@
 // The lines `key=value` that hold a count, a real number or the name of a run.
 use crate::RunRead;
-use runs::Run;
+use ops::Run;
 use text::Read;
 use text::Real;
 use text::decimals::read_decimal;

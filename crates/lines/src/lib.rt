@@ -1,7 +1,7 @@
 // One line of a sheet: whether it is laid out as it should be, and the values on it.
 
-use runs::Run;
-use turns::Op;
+use ops::Op;
+use ops::Run;
 use words::Gate;
 
 // The run that a line names, or none.

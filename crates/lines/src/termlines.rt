@@ -12,7 +12,7 @@ use text::parts::starts_with;
 use text::reals::read_real;
 use words::keys::set_bit;
 ghost use mathlib.Core.Path.{_≡_};
-ghost use mathlib.Core.Bool.{_&&_};
+ghost use mathlib.Core.Bool.{true, _&&_};
 ghost use mathlib.Core.List.{map};
 ghost use Prim.Native.Nat.{_+_, _*_};
 ghost use lib.ListN.{drop, getD};
@@ -164,9 +164,10 @@ fn are_distinct(f: &[u8]) -> bool
     }
 }
 
-// Whether the qubits on a `term` line are below 256 and distinct.
+// Whether the qubits on a `term` line are distinct, where they are below 256; a line with another is told to have a repeat.
 pub fn factors_distinct(l: &[u8]) -> bool
-    ensures { λ r. ⌜ r ≡ (allBelow 256 (qubitsIn (factorsOn (now (l .entry)))) && distinct (qubitsIn (factorsOn (now (l .entry))))) ⌝ }
+    ensures { λ r. ⌜ (r ≡ (allBelow 256 (qubitsIn (factorsOn (now (l .entry)))) && distinct (qubitsIn (factorsOn (now (l .entry))))))
+        × (allBelow 256 (qubitsIn (factorsOn (now (l .entry)))) ≡ true → r ≡ distinct (qubitsIn (factorsOn (now (l .entry))))) ⌝ }
 {
     are_distinct(factors_text(l))
 }

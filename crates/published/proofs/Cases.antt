@@ -6,15 +6,15 @@ use mathlib.Core.List.{List, [], _∷_, map}
 use lib.Ieee.{Float, neg}
 use Rattle.numbers.specs.Constants.{zero64, one64, minusOne64, sineT, cosineT}
 use Rattle.words.specs.declared.Gate.the-variants.{H}
-use Rattle.turns.specs.declared.Op.{Op}
-use Rattle.turns.specs.declared.Op.the-variants.{Native, T, Rz, Damp}
-use Rattle.turns.specs.Turn.{Stage, refused, going}
-use Rattle.runs.specs.declared.Run.{Run}
-use Rattle.runs.specs.declared.Run.the-variants.{Full, Cone, Path}
-use Rattle.runs.specs.Task.{Line, Task}
-use Rattle.runs.proofs.Cases as R
-use Rattle.runs.proofs.Cases.{real, word, line, limits, task, usual}
-use Rattle.published.specs.Complex.{complex, turnedOf, sizeOf}
+use Rattle.ops.specs.declared.Op.{Op}
+use Rattle.ops.specs.declared.Op.the-variants.{Native, T, Rz, Damp}
+use Rattle.dynamics.specs.Turn.{Stage, refused, going}
+use Rattle.ops.specs.declared.Run.{Run}
+use Rattle.ops.specs.declared.Run.the-variants.{Full, Cone, Path}
+use Rattle.ops.specs.Task.{Line, Task}
+use Rattle.cones.proofs.Cases as R
+use Rattle.cones.proofs.Cases.{real, word, line, limits, task, usual}
+use Rattle.published.specs.Complex.{complex, quarterTurned, sizeOf}
 use Rattle.published.specs.Term.{Term, term, find, isIn, addTo, conjugated, allFinite}
 use Rattle.published.specs.Start.{termOf, share}
 use Rattle.published.specs.Rotation.{appendedRows, rotated}
@@ -27,7 +27,7 @@ use Rattle.published.specs.Outcome.{termsOf, foldLines, allRuns, outcome
 
 -- opens the definitions that the cases compute
 unfoldable pub computed : Unit {0}
-unfolding R.computed turnedOf sizeOf find isIn addTo conjugated allFinite termOf share appendedRows rotated insert scaledLocal channeled keptOf act met checked settle
+unfolding R.computed quarterTurned sizeOf find isIn addTo conjugated allFinite termOf share appendedRows rotated insert scaledLocal channeled keptOf act met checked settle
     ended finish runs markedRun termsOf foldLines allRuns
 computed = tt
 

@@ -10,7 +10,7 @@ use Rattle.numbers.specs.Close.{_≈_, same}
 use Rattle.numbers.proofs.CloseLaws.{≈-sym, ≈-trans, neg-≈, add-≈, mul-≈, abs-≈, is-zero-≈}
 use Rattle.terms.proofs.NearLaws.{cond-both, cond-same}
 use Rattle.published.specs.declared.Complex64.{Complex64}
-use Rattle.published.specs.Complex.{scaledOf, flippedOf, plusOf, turnedOf, sizeOf}
+use Rattle.published.specs.Complex.{scaledOf, flippedOf, plusOf, quarterTurned, sizeOf}
 
 -- zeros of either sign pass the test
 pub zero-passes : {x : Float} → x ≈ zero64 → isZero x ≡ true
@@ -39,8 +39,8 @@ near-flipped e p = record { re = mul-≈ binary64 (p .im) e; im = neg-≈ (mul-�
 pub near-plus : {a b c d : Complex64} → NearC a b → NearC c d → NearC (plusOf a c) (plusOf b d)
 near-plus p q = record { re = add-≈ binary64 (p .re) (q .re); im = add-≈ binary64 (p .im) (q .im) }
 
-pub near-turned : (k : ℕ) {c d : Complex64} → NearC c d → NearC (turnedOf k c) (turnedOf k d)
-unfolding turnedOf
+pub near-turned : (k : ℕ) {c d : Complex64} → NearC c d → NearC (quarterTurned k c) (quarterTurned k d)
+unfolding quarterTurned
 near-turned k p =
     cond-both NearC (eqb (k % 4) 1) (record { re = neg-≈ (p .im); im = p .re })
     (cond-both NearC (eqb (k % 4) 2) (record { re = neg-≈ (p .re); im = neg-≈ (p .im) })

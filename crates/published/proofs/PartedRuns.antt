@@ -13,10 +13,9 @@ use Rattle.terms.specs.Lists.{All, Each, none, more}
 use Rattle.terms.specs.Term.{Term, oddY}
 use Rattle.terms.specs.Start.{termOf}
 use Rattle.terms.proofs.AllLaws.{all-imp}
-use Rattle.turns.specs.Turn.{Stage, State}
-use Rattle.turns.specs.Runs.{begin}
-use Rattle.turns.specs.MarkedOps.{Holds}
-use Rattle.runs.specs.Task.{Task, width}
+use Rattle.dynamics.specs.Turn.{Stage, State, UnlessRefused}
+use Rattle.dynamics.specs.Runs.{begin}
+use Rattle.ops.specs.Task.{Task, width}
 use Rattle.published.specs.declared.Complex64.{Complex64}
 use Rattle.published.specs.Term as CT
 use Rattle.published.specs.Start as CS
@@ -41,7 +40,7 @@ same-halved : (w : ℕ) {ts : List Term} {us : List CT.Term} → Each (TermBy St
 same-halved w {us = us} p = all-imp (Parted w) (Halved w) us (λ u h. record { parted = h; size = parted-squared w u h }) (same-parted w p)
 
 -- ---- what the published run has come to, wherever the stored run has come to what agrees with it
-like-holds : {S S' : Type 0} {R : S → S' → Type 0} (P : S' → Type 0) → ((s : S) (t : S') → R s t → P t) → {x : Stage S} {y : Stage S'} → Like R x y → Holds P y
+like-holds : {S S' : Type 0} {R : S → S' → Type 0} (P : S' → Type 0) → ((s : S) (t : S') → R s t → P t) → {x : Stage S} {y : Stage S'} → Like R x y → UnlessRefused P y
 like-holds P f (stops n) = tt
 like-holds P f (goes {s = s} {t = t} p) = f s t p
 
@@ -55,7 +54,7 @@ module _ (t : Task) (o : OneReal t) where
     acted = λ op f. let q = o .steps op (s .terms) (u .terms) (p .terms) in same-halved w (q .1 (q .0 ∙ f) .same);
   }
 
-  at-turn : {x : Stage State} {y : Stage CU.State} → Like (SameState w) x y → Holds (HalvedState w) y
+  at-turn : {x : Stage State} {y : Stage CU.State} → Like (SameState w) x y → UnlessRefused (HalvedState w) y
   at-turn p = like-holds (HalvedState w) state-halved p
 
   halved : OnePart t

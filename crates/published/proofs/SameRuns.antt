@@ -3,42 +3,42 @@
 use Prim.Native.Nat.{ℕ, zero, suc, _+_, _*_, max}
 use native.Mathlib.Omega.{arith}
 use mathlib.Core.Logic.{⊎-elim}
-use mathlib.Core.Path.{_≡_, refl, sym, ap, ap₂, _∙_, subst}
+use mathlib.Core.Path.{_≡_, refl, ap, ap₂, _∙_, subst}
 use mathlib.Core.Bool.{Bool, true, false, cond, _&&_}
-use mathlib.Core.List.{List, [], _∷_, _++_}
+use mathlib.Core.List.{List, [], _∷_}
 use lib.Dec as D
 use lib.Dec.{eqb, ltb, leb}
 use lib.ListN.{length, drop, getD, replicate, length-replicate, getD-replicate, List·getD-eq-default}
-use lib.Ieee.{Float, binary64, add, mul, lt, fits}
+use lib.Ieee.{Float, binary64, lt, fits}
 use lib.Ieee.Bits.{ofBits-fits}
 use Rattle.numbers.specs.Close.{_≈_, same}
 use Rattle.numbers.specs.Constants.{zero64, one64}
-use Rattle.numbers.specs.Tests.{isFinite, absOf}
+use Rattle.numbers.specs.Tests.{isFinite}
 use Rattle.numbers.proofs.CloseLaws.{add-≈, mul-≈, finite-≈}
 use Rattle.words.specs.Keys.{Key, zAt, noLetters}
 use Rattle.words.proofs.KeyLaws.{flipAt-length, flipAt-words}
 use Rattle.terms.specs.declared.Axis.the-variants.{Z, Zz}
-use Rattle.terms.specs.Lists.{All, Each, none, more}
-use Rattle.terms.specs.Channel.{actionOf}
+use Rattle.terms.specs.Lists.{All, none, more}
 use Rattle.terms.specs.Term.{Term, OnWidth, allFinite}
-use Rattle.terms.specs.Start.{termOf, merged}
+use Rattle.terms.specs.Start.{termOf}
 use Rattle.terms.proofs.CaseLaws.{and-true, lt-or-le}
 use Rattle.terms.proofs.AllLaws.{all-imp}
 use Rattle.terms.proofs.NearLaws.{each-append, cond-both, cond-same}
 use Rattle.terms.proofs.DistinctLaws.{kept-all, merged-width}
-use Rattle.turns.specs.declared.Limits.{Limits}
-use Rattle.turns.specs.declared.Op.{Op}
-use Rattle.turns.specs.declared.Op.the-variants.{Native, T, Tdg, Rz, P, Rzz}
-use Rattle.turns.specs.declared.Op.the-variants.{Pauli, Depol, Damp, Phase, Thermal, Depol2, Barrier}
-use Rattle.turns.specs.Ops.{targets, onWords, actOn, act, met}
-use Rattle.turns.specs.Turn.{Stage, refused, going, bind, ask, State, state, fine, dropSmall, truncated, counted, checked, settle, Outcome, outcome, lastDrop, ended, finish}
-use Rattle.turns.specs.Runs.{markAll, turn, step, runs, markedRun, begin}
-use Rattle.turns.specs.Given.{zKey}
-use Rattle.turns.proofs.ApplyLaws.{gate-targets, axis-on, pair-on, act-width}
-use Rattle.runs.specs.declared.Run.{Run}
-use Rattle.runs.specs.declared.Run.the-variants as R
-use Rattle.runs.specs.Task.{Line, Task, width}
-use Rattle.runs.specs.Outcome.{termsOf, startOf, nothingYet, alone, addLine, addNext, foldLines, askTotals, folded, orFold, sumRun, zState, addZ, zStep, allRuns, outcomeOf}
+use Rattle.ops.specs.declared.Limits.{Limits}
+use Rattle.ops.specs.declared.Op.{Op}
+use Rattle.ops.specs.declared.Op.the-variants.{Native, T, Tdg, Rz, P, Rzz, Pauli, Depol, Damp, Phase, Thermal, Depol2, Barrier}
+use Rattle.ops.specs.Ops.{targets, onWords}
+use Rattle.dynamics.specs.Acts.{actOn, act, met}
+use Rattle.dynamics.specs.Turn.{Stage, going, bind, ask, State, state, fine, dropSmall, truncated, checked, settle, Outcome, ended, finish}
+use Rattle.ops.specs.Marks.{markAll}
+use Rattle.dynamics.specs.Runs.{turn, step, runs, markedRun, begin}
+use Rattle.dynamics.specs.Outcome.{zKey}
+use Rattle.dynamics.proofs.KeptLaws.{gate-targets, axis-on, pair-on, act-width}
+use Rattle.ops.specs.declared.Run.{Run}
+use Rattle.ops.specs.declared.Run.the-variants as R
+use Rattle.ops.specs.Task.{Line, Task, width}
+use Rattle.dynamics.specs.Outcome.{termsOf, startOf, nothingYet, alone, addLine, addNext, foldLines, askTotals, folded, orFold, sumRun, addZ, zStep, allRuns, outcomeOf}
 use Rattle.published.specs.Term as CT
 use Rattle.published.specs.Start as CS
 use Rattle.published.specs.Ops as CO

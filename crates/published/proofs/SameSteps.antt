@@ -3,7 +3,7 @@
 use Prim.Native.Nat.{ℕ, zero, suc, _+_, _*_, _/_, _%_, _^_, _<_}
 use mathlib.Core.Path.{_≡_, refl, sym, ap, ap₂, _∙_, subst, subst₂}
 use mathlib.Core.Bool.{Bool, true, false, not, cond, _&&_, _||_}
-use mathlib.Core.List.{List, [], _∷_, _++_, map}
+use mathlib.Core.List.{List, [], _∷_, map}
 use mathlib.Core.Option as O
 use native.Mathlib.Omega.{arith}
 use borrow.Author.Tests.{not-true, eqb-true}
@@ -13,10 +13,9 @@ use lib.Dec.{T, ltb, eqb}
 use native.Mathlib.Nat.{zero-add, zero-div}
 use lib.Ieee.{Float, nan, binary64, add, fits}
 use Rattle.numbers.specs.Close.{_≈_, same}
-use Rattle.numbers.specs.Constants.{zero64}
 use Rattle.numbers.specs.Tests.{isFinite, isZero}
-use Rattle.numbers.proofs.CloseLaws.{add-≈, lt-≈, ≈-trans}
-use Rattle.words.specs.Keys.{Key, _⊕_, bitOf, bitAt, flipAt, zAt, hasLetter, allZero, sameKey, noX}
+use Rattle.numbers.proofs.CloseLaws.{add-≈, lt-≈}
+use Rattle.words.specs.Keys.{Key, bitOf, bitAt, flipAt, zAt, hasLetter, allZero, sameKey, noX}
 use Rattle.words.specs.declared.Gate.{Gate}
 use Rattle.words.specs.Gates.{conjPhase, bitsAt, conjKey, Targets}
 use Rattle.words.proofs.KeyLaws.{sameKey-eq}
@@ -25,9 +24,9 @@ use Rattle.terms.specs.declared.Axis.{Axis}
 use Rattle.terms.specs.declared.ChannelAction.{ChannelAction}
 use Rattle.terms.specs.declared.ChannelKind.{ChannelKind}
 use Rattle.terms.specs.declared.ChannelKind.the-variants.{Local, Depolarizing2q}
-use Rattle.terms.specs.Lists.{All, Each, none, more, foldl}
-use Rattle.terms.specs.Coefficient.{signed, scaledOf, plusOf, flippedOf, negates}
-use Rattle.terms.specs.Letters.{countY, ysOf, isOdd}
+use Rattle.terms.specs.Lists.{All, Each, none, more}
+use Rattle.terms.specs.Coefficient.{signed, scaledOf, plusOf, flippedOf}
+use Rattle.words.specs.Letters.{countY, ysOf, isOdd}
 use Rattle.terms.specs.Term.{Term, term, OnWidth, oddY, find, isIn, addTo, conjugated, allFinite}
 use Rattle.terms.specs.Start.{termOf, share, merged}
 use Rattle.terms.specs.Rotation.{metBy, partnerBy, onKey, scaledMet, flippedTerm, turnedTerm, appendedTerm, turnedRow, appendedRows, rotated}
@@ -36,7 +35,7 @@ use Rattle.terms.specs.Truncation.{isSmall, keptOf, addDropped, droppedOf}
 use Rattle.terms.specs.Mean.{addMean, meanOf}
 use Rattle.terms.specs.Met.{letterAmong, addMet, metTerms}
 use Rattle.published.specs.Complex as C
-use Rattle.published.specs.Complex.{coeffOf, finiteOf}
+use Rattle.published.specs.Complex.{coeffOf}
 use Rattle.published.specs.Term as CT
 use Rattle.published.specs.Start as CS
 use Rattle.published.specs.Rotation as CR
@@ -49,7 +48,7 @@ use Rattle.terms.proofs.NearLaws.{each-map, each-append, each-fold, each-length
 use Rattle.published.specs.OneReal.{Stands, TermBy, SameTerm}
 use Rattle.terms.proofs.YLaws.{odd-same, odd-suc, conjugated-ys, partner-ys, no-y-ys}
 use Rattle.published.proofs.SameTerms.{Names, both, neither, names-finite, names-stands, stands-none, stands-plus, names-plus, names-scaled}
-use Rattle.published.proofs.SameTerms.{names-flipped, stands-size, turnSign, negates-turns, parity-plus, stands-turned}
+use Rattle.published.proofs.SameTerms.{names-flipped, stands-size, negates-turns, parity-plus, stands-turned}
 
 -- ---- terms
 
@@ -136,7 +135,7 @@ module _ (w : ℕ) where
   unfolding termOf CS.termOf
   same-term k v h = record {
     key = refl;
-    coeff = subst₂ (λ (b s : Bool). Stands b (signed s v) (C.turnedOf (ysOf w k) (coeffOf false v))) (not-not (oddY w k)) (ap (λ (n : ℕ). ltb 1 (n % 4)) (zero-add (ysOf w k)))
+    coeff = subst₂ (λ (b s : Bool). Stands b (signed s v) (C.quarterTurned (ysOf w k) (coeffOf false v))) (not-not (oddY w k)) (ap (λ (n : ℕ). ltb 1 (n % 4)) (zero-add (ysOf w k)))
         (stands-turned false (ysOf w k) (record { re = same; im = same; fit = h }));
   }
 
@@ -165,7 +164,7 @@ module _ (w : ℕ) where
           let m = conjPhase g s in
           let o = oddY w k in
           at-key (conjKey g w a b k)
-          (subst₂ (λ (x y : Bool). Stands x (signed y v) (C.turnedOf m c))
+          (subst₂ (λ (x y : Bool). Stands x (signed y v) (C.quarterTurned m c))
           (sym (odd-same (ysOf w (conjKey g w a b k)) (ysOf w k + m) (conjugated-ys g w a b k at long) ∙ parity-plus (ysOf w k) m))
           (sym (negates-turns g s o))
           (stands-turned o m q)))

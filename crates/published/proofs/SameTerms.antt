@@ -1,13 +1,12 @@
 -- A number and a complex coefficient that it stands for: what each operation does to both. Assumes nothing.
 use Prim.Native.Nat.{ℕ, zero, suc, _+_, _*_, _%_, _<_}
 use mathlib.Core.Path.{_≡_, refl, sym, ap, ap₂, _∙_, subst, subst₂}
-use mathlib.Core.Bool.{Bool, true, false, not, cond, _&&_, _||_, and-false, false≢true, Bool·beq}
+use mathlib.Core.Bool.{Bool, true, false, not, cond, _&&_, false≢true, Bool·beq}
 use mathlib.Core.Logic.{_≢_}
 use native.Mathlib.Nat.{zero-mul}
 use native.Mathlib.Omega.{arith}
-use lib.Dec.{T, eqb, ltb, eqb·suc-zero}
+use lib.Dec.{T, ltb, eqb·suc-zero}
 use borrow.Author.Tests.{eqb-true, eqb-false}
-use lib.ListN.{length}
 use lib.Ieee.{Float, nan, inf, fin, binary64, neg, add, mul, eq, ofBits, round, up, down, unlike, fits}
 use lib.Ieee.Fits.{neg-fits, add-fits, mul-fits}
 use lib.Ieee.Bits.{ofBits-fits}
@@ -15,22 +14,21 @@ use Rattle.numbers.specs.Constants.{zero64}
 use Rattle.numbers.specs.Tests.{isFinite, absOf, isZero}
 use Rattle.numbers.specs.Close.{_≈_, same, zeros}
 use Rattle.numbers.proofs.ValueLaws.{round-zero}
-use Rattle.numbers.proofs.CloseLaws.{≈-sym, ≈-trans, ≈-of, finite-≈, neg-≈, mul-≈, add-≈, abs-≈, ≈-of-eq}
-use Rattle.numbers.proofs.TestLaws.{holds}
-use Rattle.words.specs.Keys.{Key, _⊕_}
+use Rattle.numbers.proofs.CloseLaws.{≈-sym, ≈-trans, ≈-of, finite-≈, neg-≈, add-≈, abs-≈, ≈-of-eq}
+use Rattle.words.specs.Keys.{_⊕_}
 use Rattle.words.specs.declared.Bits as B
 use Rattle.words.specs.declared.Gate.{Gate}
-use Rattle.words.specs.Gates.{conjPhase, bitsAt, conjKey, Targets}
+use Rattle.words.specs.Gates.{conjPhase}
 use Rattle.words.proofs.EveryGate as E
 use Rattle.published.specs.declared.Complex64.{Complex64}
 use Rattle.published.specs.Complex as C
-use Rattle.published.specs.Complex.{complex, none64, turnedOf, sizeOf, finiteOf, coeffOf}
-use Rattle.terms.specs.Letters.{ysOf, isOdd}
+use Rattle.published.specs.Complex.{complex, none64, quarterTurned, sizeOf, finiteOf, coeffOf}
+use Rattle.words.specs.Letters.{isOdd}
 use Rattle.terms.proofs.CaseLaws.{and-true}
 use Rattle.published.proofs.ComplexLaws.{zero-passes, NearC, near-coeff-refl, near-coeff-trans, near-scaled, near-flipped, near-plus, near-turned, near-size}
 use Rattle.published.specs.OneReal.{Stands}
 use Rattle.terms.specs.Coefficient.{signed, scaledOf, plusOf, flippedOf, negates, asksWord}
-use Rattle.terms.proofs.YLaws.{odd-same, odd-suc, conjugated-ys}
+use Rattle.terms.proofs.YLaws.{odd-same}
 
 -- ---- zeros, and what is finite
 
@@ -238,8 +236,8 @@ negates-turns g s false = E.beq→eq _ _ (E.at-each (λ g s. Bool·beq (negates 
 pub asks : (g : Gate) (s : B.Bits) → negates g s true ⊕ negates g s false ≡ asksWord g && isOdd (conjPhase g s)
 asks g s = E.beq→eq _ _ (E.at-each (λ g s. Bool·beq (negates g s true ⊕ negates g s false) (asksWord g && isOdd (conjPhase g s))) tt g s)
 
-quarter : (b : Bool) (r : ℕ) (v : Float) → r < 4 → NearC (coeffOf (b ⊕ isOdd r) (signed (turnSign b r) v)) (turnedOf r (coeffOf b v))
-unfolding turnedOf neg ofBits
+quarter : (b : Bool) (r : ℕ) (v : Float) → r < 4 → NearC (coeffOf (b ⊕ isOdd r) (signed (turnSign b r) v)) (quarterTurned r (coeffOf b v))
+unfolding quarterTurned neg ofBits
 quarter true zero v h = near-coeff-refl _
 quarter false zero v h = near-coeff-refl _
 quarter true (suc zero) v h = record { re = same; im = same }
@@ -250,8 +248,8 @@ quarter true (suc (suc (suc zero))) v h = record { re = same; im = zeros false t
 quarter false (suc (suc (suc zero))) v h = record { re = same; im = same }
 quarter b (suc (suc (suc (suc r)))) v h = absurd (omega arith)
 
-turned-mod : (m : ℕ) (c : Complex64) → turnedOf (m % 4) c ≡ turnedOf m c
-unfolding turnedOf
+turned-mod : (m : ℕ) (c : Complex64) → quarterTurned (m % 4) c ≡ quarterTurned m c
+unfolding quarterTurned
 turned-mod m c = let e : m % 4 % 4 ≡ m % 4 = omega arith in rw e
 
 sign-mod : (b : Bool) (m : ℕ) → turnSign b (m % 4) ≡ turnSign b m
@@ -272,10 +270,10 @@ parity-plus n m = go (isOdd n) (isOdd m) refl refl
     go false false p q = odd-same (n + m) 0 (omega (arith, eqb-false (n % 2) 1 p, eqb-false (m % 2) 1 q))
 
 -- i to the power m
-pub stands-turned : (b : Bool) (m : ℕ) {v : Float} {c : Complex64} → Stands b v c → Stands (b ⊕ isOdd m) (signed (turnSign b m) v) (turnedOf m c)
+pub stands-turned : (b : Bool) (m : ℕ) {v : Float} {c : Complex64} → Stands b v c → Stands (b ⊕ isOdd m) (signed (turnSign b m) v) (quarterTurned m c)
 stands-turned b m {v} {c} p = stands (near-coeff-trans one (near-turned m (near p))) (signed-fits (turnSign b m) v (p .fit))
   where
-    one : NearC (coeffOf (b ⊕ isOdd m) (signed (turnSign b m) v)) (turnedOf m (coeffOf b v))
+    one : NearC (coeffOf (b ⊕ isOdd m) (signed (turnSign b m) v)) (quarterTurned m (coeffOf b v))
     one = subst (λ (c : Complex64). NearC (coeffOf (b ⊕ isOdd m) (signed (turnSign b m) v)) c) (turned-mod m (coeffOf b v))
-        (subst₂ (λ (o s : Bool). NearC (coeffOf (b ⊕ o) (signed s v)) (turnedOf (m % 4) (coeffOf b v))) (odd-same (m % 4) m (omega arith)) (sign-mod b m)
+        (subst₂ (λ (o s : Bool). NearC (coeffOf (b ⊕ o) (signed s v)) (quarterTurned (m % 4) (coeffOf b v))) (odd-same (m % 4) m (omega arith)) (sign-mod b m)
         (quarter b (m % 4) v (omega arith)))

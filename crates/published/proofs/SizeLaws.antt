@@ -18,7 +18,7 @@ use Rattle.numbers.proofs.TestLaws.{holds}
 use Rattle.published.specs.declared.Complex64.{Complex64}
 use Rattle.published.specs.Complex.{sizeOf}
 use Rattle.published.specs.Term.{Term}
-use Rattle.terms.specs.Letters.{ysOf, isOdd}
+use Rattle.words.specs.Letters.{ysOf, isOdd}
 use Rattle.published.specs.Parity.{partOf, Parted}
 use Rattle.terms.proofs.CaseLaws.{and-true}
 use Rattle.published.proofs.ComplexLaws.{zero-passes}

@@ -9,9 +9,9 @@ use Rattle.terms.specs.declared.Axis.{Axis}
 use Rattle.terms.specs.declared.Axis.the-variants.{Z, Zz}
 use Rattle.terms.specs.declared.NoiseChannel.the-variants.{AmplitudeDamping}
 use Rattle.terms.specs.Lists.{foldl}
-use Rattle.published.specs.Complex.{complex, turnedOf, sizeOf}
+use Rattle.published.specs.Complex.{complex, quarterTurned, sizeOf}
 use Rattle.published.specs.Term.{Term, term, find, isIn, addTo}
-use Rattle.terms.specs.Letters.{countY}
+use Rattle.words.specs.Letters.{countY}
 use Rattle.published.specs.Start.{termOf, share, merged}
 use Rattle.terms.specs.Rotation.{metBy, partnerBy}
 use Rattle.published.specs.Rotation.{appendedRows, rotated}
@@ -31,11 +31,11 @@ turn x sin cos ts = rotated (metBy x) (partnerBy 1 x) sin cos ts
 
 -- the observables X, Y and Z of qubit 0: Y is i times the word XZ
 x-line : termOf 1 (1 ∷ 0 ∷ []) one64 ≡ real (1 ∷ 0 ∷ []) one64
-unfolding termOf countY turnedOf bitAt bitOf ofBits
+unfolding termOf countY quarterTurned bitAt bitOf ofBits
 x-line = refl
 
 y-line : termOf 1 (1 ∷ 1 ∷ []) one64 ≡ term (1 ∷ 1 ∷ []) (complex (neg zero64) one64)
-unfolding termOf countY turnedOf bitAt bitOf neg ofBits
+unfolding termOf countY quarterTurned bitAt bitOf neg ofBits
 y-line = refl
 
 -- t takes X to cos X + sin (-i) XZ, and i XZ to cos i XZ + sin X

@@ -28,8 +28,8 @@ abbrev pub plusOf : Complex64 → Complex64 → Complex64
 plusOf c d = complex (add binary64 (c .re) (d .re)) (add binary64 (c .im) (d .im))
 
 -- c times i to the power k: exact, it swaps and negates parts
-unfoldable pub turnedOf : ℕ → Complex64 → Complex64
-turnedOf k c =
+unfoldable pub quarterTurned : ℕ → Complex64 → Complex64
+quarterTurned k c =
     cond (eqb (k % 4) 1) (complex (neg (c .im)) (c .re))
     (cond (eqb (k % 4) 2) (complex (neg (c .re)) (neg (c .im)))
     (cond (eqb (k % 4) 3) (complex (c .im) (neg (c .re))) c))

@@ -9,11 +9,11 @@ use lib.Ieee.{Float}
 use Rattle.numbers.specs.Constants.{one64}
 use Rattle.numbers.specs.Root.{square, unitsOf}
 use Rattle.terms.specs.Lists.{All}
-use Rattle.turns.specs.declared.Op.{Op}
-use Rattle.turns.specs.MarkedOps.{Holds}
-use Rattle.turns.specs.Given.{zKey}
-use Rattle.runs.specs.declared.Run.{Run}
-use Rattle.runs.specs.Task.{Task, width}
+use Rattle.ops.specs.declared.Op.{Op}
+use Rattle.dynamics.specs.Turn.{UnlessRefused}
+use Rattle.dynamics.specs.Outcome.{zKey}
+use Rattle.ops.specs.declared.Run.{Run}
+use Rattle.ops.specs.Task.{Task, width}
 use Rattle.published.specs.Complex.{sizeOf}
 use Rattle.published.specs.Term.{Term, allFinite}
 use Rattle.published.specs.Start.{termOf}
@@ -39,14 +39,14 @@ HalvedEnd w o = All (Halved w) (o .terms)
 
 -- at the turn of op k, under any marks, the ops from the k-th on have had theirs; after a refusal there is no state
 abbrev pub HalvedAt : Task → List Bool → ℕ → State → Type 0
-HalvedAt t ms k s = Holds (HalvedState (width t)) (runs (width t) (t .limits) (drop k ms) (drop k (t .ops)) s)
+HalvedAt t ms k s = UnlessRefused (HalvedState (width t)) (runs (width t) (t .limits) (drop k ms) (drop k (t .ops)) s)
 
 -- at every turn of the sum's run, of each line's run in a fold, of each qubit's run in `all`, and at the end of every run
 pub record OnePart (t : Task) : Type 0 where
   pub turns : (ms : List Bool) (k : ℕ) → HalvedAt t ms k (begin (startOf (width t) (t .lines)))
   pub lines : (ms : List Bool) (k : ℕ) → All (λ l. HalvedAt t ms k (begin (termOf (width t) (l .key) one64 ∷ []))) (t .lines)
   pub qubits : (ms : List Bool) (k q p n : ℕ) (d : Float) → HalvedAt t ms k (state (termOf (width t) (zKey (width t) q) one64 ∷ []) p d n)
-  pub ends : (r : Run) → Holds (HalvedEnd (width t)) (outcomeOf r t)
+  pub ends : (r : Run) → UnlessRefused (HalvedEnd (width t)) (outcomeOf r t)
 
 -- for every task whose words have the width and whose weights are binary64 numbers, as those of every sheet
 abbrev pub OnePartIsZero : Type 0

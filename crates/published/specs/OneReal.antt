@@ -17,15 +17,13 @@ use Rattle.published.specs.declared.Complex64.{Complex64}
 use Rattle.terms.specs.Lists.{All, Each}
 use Rattle.terms.specs.Term.{Term, oddY, OnWidth, allFinite}
 use Rattle.terms.specs.Start.{termOf}
-use Rattle.turns.specs.declared.Limits.{Limits}
-use Rattle.turns.specs.declared.Op.{Op}
-use Rattle.turns.specs.Ops.{act}
-use Rattle.turns.specs.Turn.{Stage, refused, going, State, state, Outcome}
-use Rattle.turns.specs.Runs.{begin, runs}
-use Rattle.turns.specs.Given.{zKey}
-use Rattle.runs.specs.declared.Run.{Run}
-use Rattle.runs.specs.Task.{Line, Task, width}
-use Rattle.runs.specs.Outcome.{startOf, outcomeOf}
+use Rattle.ops.specs.declared.Op.{Op}
+use Rattle.dynamics.specs.Acts.{act}
+use Rattle.dynamics.specs.Turn.{Stage, refused, going, State, state, Outcome}
+use Rattle.dynamics.specs.Runs.{begin, runs}
+use Rattle.dynamics.specs.Outcome.{zKey, startOf, outcomeOf}
+use Rattle.ops.specs.declared.Run.{Run}
+use Rattle.ops.specs.Task.{Line, Task, width}
 use Rattle.published.specs.Complex.{coeffOf}
 use Rattle.published.specs.Term as CT
 use Rattle.published.specs.Start as CS

@@ -13,11 +13,10 @@ use Rattle.terms.specs.Rotation.{metBy, partnerBy}
 use Rattle.published.specs.Rotation.{rotated}
 use Rattle.terms.specs.Channel.{actionOf}
 use Rattle.published.specs.Channel.{channeled}
-use Rattle.turns.specs.Ops.{targets, onWords}
+use Rattle.ops.specs.Ops.{targets, onWords}
 use Rattle.published.specs.Met.{metTerms}
-use Rattle.turns.specs.declared.Op.{Op}
-use Rattle.turns.specs.declared.Op.the-variants.{Native, T, Tdg, Rz, P, Rzz}
-use Rattle.turns.specs.declared.Op.the-variants.{Pauli, Depol, Damp, Phase, Thermal, Depol2, Barrier}
+use Rattle.ops.specs.declared.Op.{Op}
+use Rattle.ops.specs.declared.Op.the-variants.{Native, T, Tdg, Rz, P, Rzz, Pauli, Depol, Damp, Phase, Thermal, Depol2, Barrier}
 
 -- ---- what an op does to a sum, without what follows it
 

@@ -9,17 +9,16 @@ use Rattle.numbers.specs.Constants.{zero64, one64}
 use Rattle.numbers.specs.Tests.{isFinite, absOf}
 use Rattle.published.specs.Term.{Term}
 use Rattle.published.specs.Start.{termOf, merged}
-use Rattle.turns.specs.declared.Op.{Op}
-use Rattle.turns.specs.Given.{zKey}
-use Rattle.turns.specs.declared.Limits.{Limits}
-use Rattle.turns.specs.Turn.{Stage, refused, going, bind, ask}
-use Rattle.turns.specs.Runs.{markAll, markPath, markCone}
-use Rattle.runs.specs.Outcome.{observed, wideMarks}
+use Rattle.ops.specs.declared.Op.{Op}
+use Rattle.dynamics.specs.Outcome.{zKey, observed, wideMarks}
+use Rattle.ops.specs.declared.Limits.{Limits}
+use Rattle.dynamics.specs.Turn.{Stage, refused, going, bind, ask}
+use Rattle.ops.specs.Marks.{markAll, markPath, markCone}
 use Rattle.published.specs.Turn.{State, state, Outcome, outcome}
 use Rattle.published.specs.Runs.{markedRun, begin}
-use Rattle.runs.specs.declared.Run.{Run}
-use Rattle.runs.specs.declared.Run.the-variants.{Full, Cone, All, Path, Wide}
-use Rattle.runs.specs.Task.{Line, Task, width}
+use Rattle.ops.specs.declared.Run.{Run}
+use Rattle.ops.specs.declared.Run.the-variants.{Full, Cone, All, Path, Wide}
+use Rattle.ops.specs.Task.{Line, Task, width}
 
 -- the terms of the lines, and the terms that a run starts from
 unfoldable pub termsOf : ℕ → List Line → List Term

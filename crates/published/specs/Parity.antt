@@ -5,7 +5,7 @@ use lib.Ieee.{Float}
 use Rattle.numbers.specs.Constants.{zero64}
 use Rattle.numbers.specs.Close.{_≈_}
 use Rattle.published.specs.Term.{Term}
-use Rattle.terms.specs.Letters.{ysOf, isOdd}
+use Rattle.words.specs.Letters.{ysOf, isOdd}
 
 -- the part that is zero, and the other
 abbrev pub restOf : ℕ → Term → Float

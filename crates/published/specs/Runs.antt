@@ -5,10 +5,10 @@ use mathlib.Core.List.{List, [], _∷_}
 use lib.ListN.{length}
 use Rattle.numbers.specs.Constants.{zero64}
 use Rattle.published.specs.Term.{Term}
-use Rattle.turns.specs.declared.Limits.{Limits}
-use Rattle.turns.specs.declared.Op.{Op}
+use Rattle.ops.specs.declared.Limits.{Limits}
+use Rattle.ops.specs.declared.Op.{Op}
 use Rattle.published.specs.Ops.{act, met}
-use Rattle.turns.specs.Turn.{Stage, going, bind}
+use Rattle.dynamics.specs.Turn.{Stage, going, bind}
 use Rattle.published.specs.Turn.{State, state, settle, Outcome, finish}
 
 -- ---- one turn, and a run: "Each gate, rotation and channel step reports how many terms, before it acted, had a letter on at least one of its targets"

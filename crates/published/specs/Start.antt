@@ -5,14 +5,14 @@ use mathlib.Core.List.{List, [], _∷_, _++_}
 use lib.Ieee.{Float}
 use Rattle.numbers.specs.Constants.{zero64}
 use Rattle.words.specs.Keys.{Key}
-use Rattle.published.specs.Complex.{complex, none64, turnedOf}
+use Rattle.published.specs.Complex.{complex, none64, quarterTurned}
 use Rattle.terms.specs.Lists.{foldl}
-use Rattle.terms.specs.Letters.{ysOf}
+use Rattle.words.specs.Letters.{ysOf}
 use Rattle.published.specs.Term.{Term, term, isIn, addTo}
 
 -- "Y sets both and multiplies by i": the term of a line with the word k
 unfoldable pub termOf : ℕ → Key → Float → Term
-termOf w k weight = term k (turnedOf (ysOf w k) (complex weight zero64))
+termOf w k weight = term k (quarterTurned (ysOf w k) (complex weight zero64))
 
 -- "equal words share a row, in order of first line, their coefficients added from 0 in line order"
 unfoldable pub share : List Term → Term → List Term

@@ -9,7 +9,7 @@ use Rattle.words.specs.Keys.{Key, sameKey}
 use Rattle.words.specs.Gates.{bitsAt, conjKey, conjPhase}
 use Rattle.terms.specs.Term as R
 use Rattle.terms.specs.Term.{oddY}
-use Rattle.published.specs.Complex.{plusOf, turnedOf, finiteOf, coeffOf}
+use Rattle.published.specs.Complex.{plusOf, quarterTurned, finiteOf, coeffOf}
 
 pub record Term : Type 0 where
   pub key : Key
@@ -39,7 +39,7 @@ addTo k d (t ∷ ts) = let r = addTo k d ts in cond (sameKey k (t .key)) (term (
 
 -- "The gates map and phase a term": `conjugate_all_backward_phased`, for one term
 unfoldable pub conjugated : ℕ → Gate → ℕ → ℕ → Term → Term
-conjugated w g a b t = term (conjKey g w a b (t .key)) (turnedOf (conjPhase g (bitsAt w a b (t .key))) (t .coeff))
+conjugated w g a b t = term (conjKey g w a b (t .key)) (quarterTurned (conjPhase g (bitsAt w a b (t .key))) (t .coeff))
 
 -- "Is every coefficient (merging included) finite?"
 unfoldable pub allFinite : List Term → Bool

@@ -5,8 +5,8 @@ use mathlib.Core.List.{List, []}
 use lib.Dec.{leb}
 use lib.ListN.{length}
 use lib.Ieee.{Float, binary64, add, lt}
-use Rattle.turns.specs.declared.Limits.{Limits}
-use Rattle.turns.specs.Turn.{Stage, going, ask}
+use Rattle.ops.specs.declared.Limits.{Limits}
+use Rattle.dynamics.specs.Turn.{Stage, going, ask}
 use Rattle.numbers.specs.Constants.{zero64}
 use Rattle.numbers.specs.Tests.{isFinite}
 use Rattle.published.specs.Term.{Term, allFinite}

@@ -2,7 +2,7 @@
 ghost use mathlib.Core.Path.{_≡_};
 ghost use Rattle.terms.specs.Term.{oddY};
 ghost use Rattle.published.specs.Complex.{coeffOf};
-use terms::parity::y_parity;
+use words::letters::y_parity;
 
 // A complex coefficient.
 pub struct Complex64 {

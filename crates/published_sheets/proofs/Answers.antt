@@ -19,21 +19,21 @@ use Rattle.terms.proofs.CaseLaws.{and-true}
 use Rattle.terms.proofs.NearLaws.{each-refl, each-append, each-length}
 use Rattle.rows.specs.Rows.{rowsIn, wordsWith, coeffsWith}
 use Rattle.rows.proofs.ReadLaws.{Keyed}
-use Rattle.turns.specs.declared.Op.{Op}
-use Rattle.turns.specs.Turn.{Stage, Outcome}
-use Rattle.turns.specs.Told.{leftBy}
-use Rattle.runs.specs.declared.Run.{Run}
-use Rattle.runs.specs.declared.Run.the-variants.{Full, Cone, All, Path, Wide}
-use Rattle.runs.specs.Task.{question2, question3}
-use Rattle.runs.specs.Means.{meansOf}
-use Rattle.runs.proofs.WideAgrees.{limit-says}
+use Rattle.ops.specs.declared.Op.{Op}
+use Rattle.dynamics.specs.Turn.{Stage, Outcome}
+use Rattle.turns.specs.SumRuns.{leftBy}
+use Rattle.ops.specs.declared.Run.{Run}
+use Rattle.ops.specs.declared.Run.the-variants.{Full, Cone, All, Path, Wide}
+use Rattle.ops.specs.Task.{sizesFit, runFits}
+use Rattle.turns.specs.AllRuns.{meansOf}
+use Rattle.ops.proofs.SizeLaws.{sizes-say}
 use Rattle.published.specs.Complex.{coeffOf}
 use Rattle.published.specs.Term as CT
 use Rattle.published.specs.Turn as CU
 use Rattle.published.specs.OneReal.{Stands, TermBy, Both, SameEnd, Like, stops, goes}
 use Rattle.text.specs.Bytes.{parts, newline}
 use Rattle.layout.specs.declared.Head.{Head}
-use Rattle.layout.specs.Layout.{headOf, opList}
+use Rattle.layout.specs.Layout.{headOf, sheetOps}
 use Rattle.replies.specs.declared.Reply.{Reply}
 use Rattle.replies.specs.Printed.{zLines, printed}
 use Rattle.sheet.specs.declared.Verdict.{Verdict}
@@ -133,18 +133,18 @@ module _ (h : Head) (ls : List (List ℕ)) where
 
   reply-same : (v : Verdict) → SameReply (A.replyTo h ls v) (P.replyTo h ls v)
   reply-same (RefusedAt n k) = refusal-same n k
-  reply-same Passed = run-reply w (h .run) (opList h ls) alike
+  reply-same Passed = run-reply w (h .run) (sheetOps h ls) alike
 
   text-same : (v : Verdict) → printed (A.replyTo h ls v) (A.meansTo h ls v) ≡ printed (P.replyTo h ls v) (P.meansTo h ls v)
   text-same (RefusedAt n k) = refl
-  text-same Passed = run-text w (h .run) (opList h ls) alike
+  text-same Passed = run-text w (h .run) (sheetOps h ls) alike
 
   -- a sheet that passes has rows for its final terms
   few : (rows places : ℕ) → verdict h ls rows places ≡ Passed → length (leftBy (A.runOf h ls)) ≤ rows
   few rows places e =
       let t = taskOf h ls in
-      let two = and-true (question2 t) (question3 (h .run) t) (and-true (question2 t && question3 (h .run) t) _ (passed-passes h ls rows places e) .0) .0 in
-      omega (arith, left-few (h .run) t (limit-says t two .1), passed-bounds h ls rows places e .rows-enough)
+      let two = and-true (sizesFit t) (runFits (h .run) t) (and-true (sizesFit t && runFits (h .run) t) _ (passed-passes h ls rows places e) .0) .0 in
+      omega (arith, left-few (h .run) t (sizes-say t two .few), passed-bounds h ls rows places e .rows-enough)
 
   memory-same : (ws ws′ : List ℕ) (cs cs′ ms ms′ : List Float) (ix ix′ : List ℕ) (v : Verdict) → verdict h ls (rowsIn w ws cs) (length ms) ≡ v
       → A.LeavesBy h ls v ws ws′ cs cs′ ms ms′ ix ix′ → P.LeavesBy h ls v ws ws′ cs cs′ ms ms′ ix ix′

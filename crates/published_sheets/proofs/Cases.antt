@@ -8,10 +8,10 @@ use Rattle.numbers.specs.Constants.{zero64, one64}
 use Rattle.terms.specs.Lists.{tab}
 use Rattle.terms.specs.Term.{term}
 use Rattle.rows.specs.Rows.{keysOf, coeffsOf, wordsWith, coeffsWith}
-use Rattle.turns.specs.Told.{leftBy}
-use Rattle.runs.specs.Task.{Task, width}
-use Rattle.runs.specs.Outcome as R
-use Rattle.runs.proofs.Cases.{real, word}
+use Rattle.turns.specs.SumRuns.{leftBy}
+use Rattle.ops.specs.Task.{Task, width}
+use Rattle.dynamics.specs.Outcome as R
+use Rattle.cones.proofs.Cases.{real, word}
 use Rattle.published.specs.Complex.{complex}
 use Rattle.published.specs.Term as CT
 use Rattle.published.specs.Outcome as CQ

@@ -5,12 +5,11 @@ use mathlib.Core.List.{List, [], _∷_, map}
 use Rattle.words.specs.Keys.{widthOf}
 use Rattle.terms.specs.Lists.{All}
 use Rattle.terms.specs.Start.{termOf}
-use Rattle.runs.specs.Task.{Line}
+use Rattle.ops.specs.Task.{Line}
 use Rattle.lines.specs.TermLines.{lineOn, wordLine}
 use Rattle.lines.proofs.BinaryLaws.{term-line-is}
 use Rattle.lines.proofs.WordLaws.{length-word, words-word}
 use Rattle.layout.specs.declared.Head.{Head}
-use Rattle.layout.specs.Layout.{termLines}
 use Rattle.sheet.specs.Answer.{taskOf}
 use lib.ListN.{take, drop}
 use Rattle.published.specs.OneReal.{Given, OneReal}

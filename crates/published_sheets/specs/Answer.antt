@@ -11,15 +11,15 @@ use Rattle.numbers.specs.Close.{_≈_}
 use Rattle.words.specs.Keys.{widthOf}
 use Rattle.terms.specs.Lists.{Each}
 use Rattle.rows.specs.Rows.{termsIn, rowsIn}
-use Rattle.turns.specs.Turn.{Stage, refused, going}
-use Rattle.turns.specs.Turn as S
+use Rattle.dynamics.specs.Turn.{Stage, refused, going}
+use Rattle.dynamics.specs.Turn as S
 use Rattle.published.specs.Complex.{none64}
 use Rattle.published.specs.Term.{Term, term, complexOf}
 use Rattle.published.specs.Turn.{Outcome}
 use Rattle.published.specs.Outcome.{outcomeOf}
 use Rattle.text.specs.Bytes.{parts, newline}
 use Rattle.layout.specs.declared.Head.{Head}
-use Rattle.layout.specs.Layout.{headOf, opList}
+use Rattle.layout.specs.Layout.{headOf, sheetOps}
 use Rattle.replies.specs.declared.Reply.{Reply}
 use Rattle.replies.specs.Printed.{printed}
 use Rattle.sheet.specs.declared.Verdict.{Verdict}
@@ -45,7 +45,7 @@ toldOf (going o) = going (S.outcome [] (o .mean) (o .means) (o .peak) (o .discar
 -- ---- the reply of the published form, and the text that it prints, with so many rows and mean places lent
 abbrev pub replyTo : Head → List (List ℕ) → Verdict → Reply
 replyTo h ls (RefusedAt n k) = refusal n k
-replyTo h ls Passed = replyRun (h .run) (opList h ls) (toldOf (runOf h ls))
+replyTo h ls Passed = replyRun (h .run) (sheetOps h ls) (toldOf (runOf h ls))
 
 abbrev pub meansTo : Head → List (List ℕ) → Verdict → List Float
 meansTo h ls (RefusedAt n k) = []

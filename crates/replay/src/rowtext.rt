@@ -80,10 +80,10 @@ fn rows_left(words: &[u64], coeffs: &[f64], size: usize) -> usize {
 // Writes word i of a row's words: a comma stands before each but the first.
 fn write_word(out: &mut [u8], at: usize, i: usize, word: u64) -> usize {
     if i == 0 {
-        return write_hex(out, at, word, 16);
+        return write_hex(out, at, word);
     }
     let place = write_byte(out, at, 44);
-    write_hex(out, place, word, 16)
+    write_hex(out, place, word)
 }
 
 // Writes words, split by commas.

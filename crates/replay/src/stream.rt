@@ -5,7 +5,6 @@ use libc::STDOUT_FILENO;
 use replies::Reply;
 use replies::printed::printed;
 use replies::write::write_count;
-use runs::width::width;
 use sheet::answer::answer;
 use text::Read;
 use text::decimals::read_decimal;
@@ -14,6 +13,7 @@ use text::parts::part_before;
 use text::parts::part_from;
 use text::parts::part_to;
 use text::parts::starts_with;
+use words::rows::width;
 
 // Writes the printed lines of a reply at a place, which is no further than the end of the buffer, and gives the place after them.
 fn write_printed(out: &mut [u8], at: usize, reply: Reply, means: &[f64]) -> usize {

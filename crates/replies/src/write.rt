@@ -64,14 +64,21 @@ fn write_digits(out: &mut [u8], at: usize, n: usize, d: usize) -> usize
     write_byte(out, place, (48 + n % 10) as u8)
 }
 
-// Writes the last d hexadecimal digits of a number.
-pub fn write_hex(out: &mut [u8], at: usize, n: u64, d: usize) -> usize
+// Writes a number as 16 hexadecimal digits.
+pub fn write_hex(out: &mut [u8], at: usize, n: u64) -> usize
+    ensures { λ r. ⌜ Wrote at (hexText 16 n) (now (out .entry)) r (now (out .exit)) ⌝ }
+{
+    write_hex_digits(out, at, n, 16)
+}
+
+// The last d hexadecimal digits of a number: first what stands before the last of them.
+fn write_hex_digits(out: &mut [u8], at: usize, n: u64, d: usize) -> usize
     ensures { λ r. ⌜ Wrote at (hexText d n) (now (out .entry)) r (now (out .exit)) ⌝ }
 {
     if d == 0 {
         return held(at, out.len());
     }
-    let place = write_hex(out, at, n / 16, d - 1);
+    let place = write_hex_digits(out, at, n / 16, d - 1);
     write_byte(out, place, hex_digit(n % 16))
 }
 
@@ -116,7 +123,7 @@ pub fn write_real(out: &mut [u8], at: usize, x: f64) -> usize
     ensures { λ r. ⌜ Wrote at (realText x) (now (out .entry)) r (now (out .exit)) ⌝ }
 {
     let bits = numbers::bits::printed_bits(x);
-    write_hex(out, at, bits, 16)
+    write_hex(out, at, bits)
 }
 
 // Writes a key, a number in decimal and a newline. The key has its `=` with it.

@@ -10,7 +10,8 @@ use lib.Seq.{take-suc, take-add}
 use lib.Ieee.{Float, nan}
 use Rattle.terms.specs.Lists.{tab, mapTo}
 use Rattle.terms.specs.Term.{Term, noTerm}
-use Rattle.rows.specs.Rows.{keyAt, termAt, termsIn, putCoeff, putKey, Holds, Room, keysOf, coeffsOf}
+use Rattle.words.specs.Rows.{keyAt}
+use Rattle.rows.specs.Rows.{termAt, termsIn, putCoeff, putKey, Holds, Room, keysOf, coeffsOf}
 use Rattle.terms.proofs.ListLaws.{length-tab, getD-tab, tab-ext, tab-snoc, tab-set, mapTo-suc}
 use Rattle.rows.proofs.RowLaws.{length-key, put-key-same, length-putCoeff, val-put-same, val-put-other, drop-putCoeff, row-before, drop-more, length-putKey, drop-putKey, key-put-same, key-put-other}
 

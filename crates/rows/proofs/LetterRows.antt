@@ -19,7 +19,8 @@ use Rattle.terms.proofs.CaseLaws.{cond-holds, and-true}
 use Rattle.terms.proofs.ListLaws.{fold-tab}
 use Rattle.terms.proofs.MetLaws.{one-letter, two-letters, none-met-bare}
 use Rattle.terms.proofs.LetterSteps.{Bare}
-use Rattle.rows.specs.Rows.{keyAt, termAt, termsIn, rowsIn, metIn, Holds, Stepped, Grown}
+use Rattle.words.specs.Rows.{keyAt}
+use Rattle.rows.specs.Rows.{termAt, termsIn, rowsIn, metIn, Holds, Stepped, Grown}
 use Rattle.rows.proofs.RowLaws.{word-at}
 use Rattle.rows.proofs.HoldLaws.{hold-start}
 use Rattle.rows.proofs.StepLaws.{rows-room, stepped-held, unstepped, grown}

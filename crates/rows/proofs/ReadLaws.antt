@@ -13,7 +13,8 @@ use Rattle.numbers.specs.Constants.{zero64}
 use Rattle.terms.specs.Lists.{tab, All}
 use Rattle.terms.specs.Term.{Term}
 use Rattle.terms.proofs.ListLaws.{tab-ext}
-use Rattle.rows.specs.Rows.{keyAt, coeffAt, termAt, termsIn, rowsIn, keysOf, coeffsOf, wordsWith, coeffsWith, Stepped, Holds}
+use Rattle.words.specs.Rows.{keyAt}
+use Rattle.rows.specs.Rows.{termAt, termsIn, rowsIn, keysOf, coeffsOf, wordsWith, coeffsWith, Stepped, Holds}
 use Rattle.rows.proofs.StepLaws.{rows-room}
 use Rattle.rows.proofs.ClearLaws.{rows-less}
 

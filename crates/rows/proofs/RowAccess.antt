@@ -6,12 +6,12 @@ use Prim.Native.Nat.{ℕ, _+_, _*_, _/_, _≤_, _<_}
 use native.Mathlib.Nat.{suc-mul, le-div-iff-mul-le, mul-le-mul, mul-zero}
 use native.Mathlib.Omega.{arith}
 use lib.Dec.{leb, ltb}
-use lib.ListN.{length, getD, set, List·getD-eq-default}
-use lib.Seq.{set-out}
+use lib.ListN.{length, getD, List·getD-eq-default}
 use lib.Ieee.{Float, nan}
 use borrow.Author.Tests.{le-leb, lt-leb, lt-ltb, le-ltb}
 use Rattle.terms.proofs.CaseLaws.{lt-or-le}
-use Rattle.rows.specs.Rows.{keyAt, coeffAt, putKey, putCoeff, copiedRow}
+use Rattle.words.specs.Rows.{keyAt}
+use Rattle.rows.specs.Rows.{putKey, copiedRow}
 use Rattle.rows.proofs.RowLaws.{put-key-same}
 use mathlib.Core.Logic.{⊎-elim}
 

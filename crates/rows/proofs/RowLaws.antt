@@ -11,7 +11,8 @@ use lib.Ieee.{Float, nan}
 use Rattle.words.proofs.RowLaws.{length-part, length-withPart, drop-withPart, part-same, part-other}
 pub use Rattle.words.proofs.RowLaws.{row-before, drop-more, after}
 use Rattle.terms.proofs.CaseLaws.{lt-or-le}
-use Rattle.rows.specs.Rows.{keyAt, coeffAt, putCoeff, putKey}
+use Rattle.words.specs.Rows.{keyAt}
+use Rattle.rows.specs.Rows.{coeffAt, putCoeff, putKey}
 
 -- ---- numbers
 

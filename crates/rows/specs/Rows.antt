@@ -9,14 +9,12 @@ use lib.ListN.{length, take, drop, getD, set, replicate}
 use lib.Ieee.{Float, nan}
 use Rattle.numbers.specs.Constants.{zero64}
 use Rattle.words.specs.Keys.{Key}
+use Rattle.words.specs.Rows.{keyAt}
 use Rattle.terms.specs.Lists.{tab}
 use Rattle.terms.specs.Term.{Term, term}
 use Rattle.terms.specs.Met.{inWords, metTerms}
 
 -- ---- rows as terms
-
-abbrev pub keyAt : ℕ → List ℕ → ℕ → Key
-keyAt s ws i = take s (drop (i * s) ws)
 
 abbrev pub coeffAt : List Float → ℕ → Float
 coeffAt cs i = getD cs i nan

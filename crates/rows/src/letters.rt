@@ -6,7 +6,8 @@ ghost use Prim.Native.Nat.{_+_, _*_, _/_, _≤_, _<_};
 ghost use lib.ListN.{length};
 ghost use Rattle.words.specs.Keys.{hasLetter};
 ghost use Rattle.terms.specs.Met.{oneOrTwo, inWords, metTerms};
-ghost use Rattle.rows.specs.Rows.{keyAt, termsIn, rowsIn, metIn};
+ghost use Rattle.words.specs.Rows.{keyAt};
+ghost use Rattle.rows.specs.Rows.{termsIn, rowsIn, metIn};
 use crate::row;
 use words::gates::word_bit;
 

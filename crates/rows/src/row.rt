@@ -2,9 +2,9 @@
 ghost use mathlib.Core.Path.{_≡_};
 ghost use Prim.Native.Nat.{_*_, _/_, _+_, _≤_, min};
 ghost use lib.Dec.{leb};
-ghost use lib.ListN.{length, getD, set};
-ghost use lib.Ieee.{nan};
-ghost use Rattle.rows.specs.Rows.{keyAt, coeffAt, putCoeff, putKey, copiedRow};
+ghost use lib.ListN.{length};
+ghost use Rattle.words.specs.Rows.{keyAt};
+ghost use Rattle.rows.specs.Rows.{coeffAt, putCoeff, putKey, copiedRow};
 use words::rows::rows_of;
 
 // How many rows two buffers of these lengths hold whole.

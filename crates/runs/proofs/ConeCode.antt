@@ -17,20 +17,23 @@ use Rattle.terms.proofs.AllLaws.{all-imp}
 use Rattle.terms.proofs.CaseLaws.{and-true}
 use Rattle.terms.proofs.ListLaws.{tab-ext}
 use Rattle.terms.proofs.LetterSteps.{Within}
-use Rattle.rows.specs.Rows.{keyAt}
+use Rattle.words.specs.Rows.{keyAt}
 use Rattle.turns.specs.declared.Ending.{Ending}
-use Rattle.turns.specs.declared.Limits.{Limits}
-use Rattle.turns.specs.declared.Op.{Op}
-use Rattle.turns.specs.Ops.{targets}
-use Rattle.turns.specs.Runs.{markCone}
-use Rattle.turns.specs.Marks.{letterIn, lettersIn, coneMarks}
-use Rattle.turns.proofs.MarkLaws.{TargetsBelow}
-use Rattle.runs.specs.declared.Run.the-variants.{Cone}
-use Rattle.runs.specs.Task.{Task, width, question2, question3, question4, question11, question5, question6, isOne, passes}
-use Rattle.runs.specs.Outcome.{observed}
-use Rattle.runs.specs.Table.{taskIn, SumRan, ConeRan}
-use Rattle.runs.proofs.CoverLaws.{cone-is}
-use Rattle.runs.proofs.Demand.{counts-say, one-line, targets-within}
+use Rattle.ops.specs.declared.Limits.{Limits}
+use Rattle.ops.specs.declared.Op.{Op}
+use Rattle.ops.specs.Ops.{targets}
+use Rattle.ops.specs.Marks.{markCone}
+use Rattle.ops.specs.Sets.{TargetsBelow, letterIn, lettersIn, setMarks}
+use Rattle.ops.specs.declared.Run.the-variants.{Cone}
+use Rattle.ops.specs.Task.{Task, width, sizesFit, runFits, realsInRange, anglesHold, qubitsBelow, targetsDiffer, isOne, passes}
+use Rattle.dynamics.specs.Outcome.{observed}
+use Rattle.ops.specs.LineTable.{taskIn}
+use Rattle.ops.specs.OpList.{opList}
+use Rattle.turns.specs.SumRuns.{SumRan}
+use Rattle.runs.specs.ConeRuns.{ConeRan}
+use Rattle.ops.proofs.CoverLaws.{cone-is}
+use Rattle.cones.proofs.Demand.{one-line, targets-within}
+use Rattle.ops.proofs.SizeLaws.{sizes-say}
 
 -- ---- the word of the first line is read from the start of the table
 
@@ -58,7 +61,7 @@ letters-first w keys =
 below-all : (n : ℕ) (qs : List ℕ) → n ≤ 256 → All (λ q. q < 64 * widthOf n) qs → All (λ q. q < 256) qs
 below-all n qs few h = all-imp (λ q. q < 64 * widthOf n) (λ q. q < 256) qs (λ q b. omega (arith, b, few)) h
 
-pub targets-below : (t : Task) → t .qubits ≤ 256 → question5 t ≡ true → TargetsBelow (t .ops)
+pub targets-below : (t : Task) → t .qubits ≤ 256 → qubitsBelow t ≡ true → TargetsBelow (t .ops)
 targets-below t few h =
     all-imp (λ op. Within (width t) (targets op)) (λ op. All (λ q. q < 256) (targets op)) (t .ops) (λ op. below-all (t .qubits) (targets op) few) (targets-within t h)
 
@@ -66,24 +69,24 @@ targets-below t few h =
 
 module _ (qubits : ℕ) (l : Limits) (keys : List ℕ) (weights : List Float) (ops : List Op) where
   first-marks : (k : ℕ) → isOne (taskIn qubits l keys weights k ops .lines) ≡ true → TargetsBelow ops
-      → coneMarks (lettersIn (widthOf qubits) keys) ops ≡ markCone (observed (taskIn qubits l keys weights k ops)) ops
+      → setMarks (lettersIn (widthOf qubits) keys) ops ≡ markCone (observed (taskIn qubits l keys weights k ops)) ops
   unfolding tab
   first-marks zero e h = absurd (false≢true e)
   first-marks (suc k) e h =
-      ap (λ (s : List Bool). coneMarks s ops) (letters-first (widthOf qubits) keys) ∙ cone-is (widthOf qubits) (keyAt (2 * widthOf qubits) keys 0) ops h
+      ap (λ (s : List Bool). setMarks s ops) (letters-first (widthOf qubits) keys) ∙ cone-is (widthOf qubits) (keyAt (2 * widthOf qubits) keys 0) ops h
 
   pub cone-code : (k : ℕ) → passes Cone (taskIn qubits l keys weights k ops) ≡ true
-      → coneMarks (lettersIn (widthOf qubits) keys) ops ≡ markCone (observed (taskIn qubits l keys weights k ops)) ops
+      → setMarks (lettersIn (widthOf qubits) keys) ops ≡ markCone (observed (taskIn qubits l keys weights k ops)) ops
   cone-code k h =
       let t : Task = taskIn qubits l keys weights k ops in
-      let p = and-true (question2 t && question3 Cone t) (question4 t && (question11 t && (question5 t && question6 t))) h in
-      let q = and-true (question2 t) (question3 Cone t) (p .0) in
-      let r = and-true (question5 t) (question6 t) (and-true (question11 t) (question5 t && question6 t) (and-true (question4 t) (question11 t && (question5 t && question6 t)) (p .1) .1) .1) in
-      first-marks k (one-line t (q .1)) (targets-below t (counts-say t (q .0) .0) (r .0))
+      let p = and-true (sizesFit t && runFits Cone t) (realsInRange t && (anglesHold t && (qubitsBelow t && targetsDiffer t))) h in
+      let q = and-true (sizesFit t) (runFits Cone t) (p .0) in
+      let r = and-true (qubitsBelow t) (targetsDiffer t) (and-true (anglesHold t) (qubitsBelow t && targetsDiffer t) (and-true (realsInRange t) (anglesHold t && (qubitsBelow t && targetsDiffer t)) (p .1) .1) .1) in
+      first-marks k (one-line t (q .1)) (targets-below t (sizes-say t (q .0) .qubits) (r .0))
 
-  pub cone-ran : (k : ℕ) {r : Ending} {ws ws′ : List ℕ} {cs cs′ : List Float} {ix ix′ : List ℕ}
-      → SumRan qubits l keys weights k ops (coneMarks (lettersIn (widthOf qubits) keys) ops) r ws ws′ cs cs′ ix ix′ → ConeRan qubits l keys weights k ops r ws ws′ cs cs′ ix ix′
-  cone-ran k {r} {ws} {ws′} {cs} {cs′} {ix} {ix′} R = record {
-    always = R;
-    cone = λ h. subst (λ (ms : List Bool). SumRan qubits l keys weights k ops ms r ws ws′ cs cs′ ix ix′) (cone-code k h) R;
-  }
+pub cone-ran : (qubits : ℕ) (l : Limits) (keys : List ℕ) (weights : List Float) (k : ℕ) (codes : List ℕ) (reals : List Float) (n : ℕ) {r : Ending} {ws ws′ : List ℕ} {cs cs′ : List Float} {ix ix′ : List ℕ}
+    → SumRan qubits l keys weights k codes reals n (setMarks (lettersIn (widthOf qubits) keys) (opList n codes reals)) r ws ws′ cs cs′ ix ix′ → ConeRan qubits l keys weights k codes reals n r ws ws′ cs cs′ ix ix′
+cone-ran qubits l keys weights k codes reals n {r} {ws} {ws′} {cs} {cs′} {ix} {ix′} R = record {
+  always = R;
+  cone = λ h. subst (λ (ms : List Bool). SumRan qubits l keys weights k codes reals n ms r ws ws′ cs cs′ ix ix′) (cone-code qubits l keys weights (opList n codes reals) k h) R;
+}

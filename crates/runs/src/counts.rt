@@ -1,9 +1,9 @@
 // The t count of a run.
 ghost use mathlib.Core.Path.{_≡_};
-ghost use Rattle.turns.specs.OpList.{opList};
-ghost use Rattle.runs.specs.Outcome.{tCountOf};
-use crate::Run;
-use turns::marks::t_count;
+ghost use Rattle.ops.specs.OpList.{opList};
+ghost use Rattle.dynamics.specs.Outcome.{tCountOf};
+use ops::Run;
+use ops::marks::t_count;
 
 // The rotations among the first n ops; none are counted for `path` and `wide`.
 pub fn run_t_count(run: Run, codes: &[usize], reals: &[f64], n: usize) -> usize

@@ -14,15 +14,18 @@ use Rattle.terms.proofs.CaseLaws.{and-true}
 use Rattle.rows.specs.Rows.{rowsIn}
 use Rattle.text.specs.Bytes.{parts, newline}
 use Rattle.turns.specs.declared.Ending.{Ending}
-use Rattle.turns.specs.declared.Op.{Op}
-use Rattle.turns.specs.Turn.{Stage, Outcome}
+use Rattle.ops.specs.declared.Op.{Op}
+use Rattle.dynamics.specs.Turn.{Stage, Outcome}
 use Rattle.turns.specs.Told.{endingOf}
-use Rattle.runs.specs.Task.{Line, passes}
-use Rattle.runs.specs.Outcome.{outcomeOf, tCountOf}
-use Rattle.runs.specs.Table.{lineAt}
+use Rattle.ops.specs.Task.{Line, passes}
+use Rattle.dynamics.specs.Outcome.{outcomeOf, tCountOf}
+use Rattle.ops.specs.LineTable.{tableLine}
 use Rattle.lines.specs.TermLines.{wordLine}
 use Rattle.layout.specs.declared.Head.{Head}
-use Rattle.layout.specs.Layout.{headOf, question1, termLines, opList}
+use Rattle.layout.specs.Layout.{headOf, question1, termLines, sheetOps}
+use Rattle.layout.proofs.LaidLaws.{op-list-length}
+use Rattle.ops.proofs.OpListLaws as slices
+use Rattle.ops.specs.OpList.{hasOps}
 use Rattle.layout.specs.Loaded.{OpsLoaded, LinesLoaded}
 use Rattle.layout.proofs.LoadLaws.{rows-hold, ops-loaded, lines-loaded, lines-keys-long, lines-weights-long}
 use Rattle.replies.specs.declared.Reply.{Reply}
@@ -32,7 +35,7 @@ use Rattle.sheet.specs.declared.Verdict.the-variants.{RefusedAt, Passed}
 use Rattle.sheet.specs.Questions.{question2, lineOf, refusedOr, verdict}
 use Rattle.sheet.specs.Answer.{limitsOf, refusal, taskOf, runOf, replyTo, replyOf, LeavesBy, Leaves, Answered}
 use Rattle.sheet.specs.Asking.{tableOps, Sound, earlyVerdict, laterVerdict}
-use Rattle.sheet.specs.Running.{OpsRoom, LinesRoom, replyEnd, tableTask, tableRun, Runnable, Ended, Cleared, Replied}
+use Rattle.sheet.specs.Running.{OpsRoom, LinesRoom, replyEnd, tableTask, tableRun, Runnable, Ended, CanRun, Replied}
 use Rattle.sheet.proofs.PassLaws.{Yes, answers-of, yes-of, passed-passes}
 use Rattle.sheet.proofs.OutcomeLaws.{reply-of-end}
 
@@ -76,7 +79,7 @@ pub laid-sound : (h : Head) (ls : List (List ℕ)) (codes₀ codes : List ℕ) (
     → OpsLoaded h ls codes₀ codes reals₀ reals → Sound h ls (tableOps h codes reals)
 laid-sound h ls codes₀ codes reals₀ reals room e loaded =
     let s = early-laid h ls e in
-    let y = yes-of (question2 h) (h .terms) (termLines h ls) (opList h ls) (s .1) in
+    let y = yes-of (question2 h) (h .terms) (termLines h ls) (sheetOps h ls) (s .1) in
     let few = leb-true (h .ops) 4096 (y .ops) in
     record {
       laid = s .0;
@@ -97,8 +100,8 @@ wide-room (suc (suc (suc (suc zero)))) t n b c = omega arith
 wide-room (suc (suc (suc (suc (suc w))))) t n b c = absurd (omega arith)
 
 module _ (h : Head) (ls : List (List ℕ)) (e : earlyVerdict h ls ≡ Passed) where
-  second : Yes (question2 h) (termLines h ls) (opList h ls)
-  second = yes-of (question2 h) (h .terms) (termLines h ls) (opList h ls) (early-laid h ls e .1)
+  second : Yes (question2 h) (termLines h ls) (sheetOps h ls)
+  second = yes-of (question2 h) (h .terms) (termLines h ls) (sheetOps h ls) (early-laid h ls e .1)
 
   pub few-ops : h .ops ≤ 4096
   few-ops = leb-true (h .ops) 4096 (second .ops)
@@ -118,30 +121,29 @@ module _ (h : Head) (ls : List (List ℕ)) (e : earlyVerdict h ls ≡ Passed) wh
       }
 
 -- ---- the run of a sheet that passed, from its table
-module _ (h : Head) (ls : List (List ℕ)) (os : List Op) (ws : List ℕ) (cs ms : List Float) (ix : List ℕ) (clear : Cleared h ls os ws cs ms)
+module _ (h : Head) (ls : List (List ℕ)) (os : List Op) (ws : List ℕ) (cs ms : List Float) (ix : List ℕ) (clear : CanRun h ls os ws cs ms)
     (w : ℕ) (ew : w ≡ widthOf (h .qubits)) (keys₀ keys : List ℕ) (weights₀ weights : List Float) (room : LinesRoom h keys₀ weights₀)
     (given : LinesLoaded w h ls keys₀ keys weights₀ weights) where
   loaded : LinesLoaded (widthOf (h .qubits)) h ls keys₀ keys weights₀ weights
   loaded = subst (λ (x : ℕ). LinesLoaded x h ls keys₀ keys weights₀ weights) ew given
 
-  answers : Yes (question2 h) (termLines h ls) (opList h ls)
-  answers = yes-of (question2 h) (h .terms) (termLines h ls) (opList h ls) (answers-of h ls _ _ (clear .passed) .two)
+  answers : Yes (question2 h) (termLines h ls) (sheetOps h ls)
+  answers = yes-of (question2 h) (h .terms) (termLines h ls) (sheetOps h ls) (answers-of h ls _ _ (clear .passed) .two)
 
   some-words : widthOf (h .qubits) ≡ 0 → ⊥
   some-words z = let q = leb-true 1 (h .qubits) (and-true (leb 1 (h .qubits)) (leb (h .qubits) 256) (answers .qubits) .0) in omega arith
 
-  same-lines : tab (h .terms) (lineAt (widthOf (h .qubits)) keys weights) ≡ map (wordLine (widthOf (h .qubits))) (termLines h ls)
+  same-lines : tab (h .terms) (tableLine (widthOf (h .qubits)) keys weights) ≡ map (wordLine (widthOf (h .qubits))) (termLines h ls)
   same-lines = lines-loaded (widthOf (h .qubits)) h ls keys₀ keys weights₀ weights loaded (room .long) (room .long′) (room .blank) (clear .sound .laid)
 
   same-task : tableTask h keys weights os ≡ taskOf h ls
   same-task =
       ap₂ (λ (l : List Line) (o : List Op). record { qubits = h .qubits; limits = limitsOf h; lines = l; ops = o }) same-lines (clear .sound .table)
 
-  pub runnable : Runnable h keys weights os ws cs ms
-  runnable = record {
-    pass = ap (passes (h .run)) same-task ∙ passed-passes h ls _ _ (clear .passed);
-    given = ap₂ _&&_ (and-true (leb 1 (h .limit)) (leb (h .limit) 1048576) (answers .limit) .1)
-        (ap₂ _&&_ (and-true (leb (h .terms) 1024) (leb (h .terms) (h .limit)) (answers .terms) .1) (ap₂ _&&_ keys-fit weights-fit));
+  pub runnable : (codes : List ℕ) (reals : List Float) → os ≡ tableOps h codes reals → Runnable h keys weights codes reals ws cs ms
+  runnable codes reals e = record {
+    pass = ap (λ (o : List Op). passes (h .run) (tableTask h keys weights o)) (sym e) ∙ ap (passes (h .run)) same-task ∙ passed-passes h ls _ _ (clear .passed);
+    given = ap₂ _&&_ (ap₂ _&&_ (ap₂ _&&_ (answers .qubits) (answers .limit)) (ap₂ _&&_ (answers .terms) (answers .ops))) (ap₂ _&&_ (ap₂ _&&_ keys-fit weights-fit) ops-fit);
     room = answers-of h ls _ _ (clear .passed) .room;
   }
     where
@@ -153,18 +155,23 @@ module _ (h : Head) (ls : List (List ℕ)) (os : List Op) (ws : List ℕ) (cs ms
       weights-fit : leb (h .terms) (length weights) ≡ true
       weights-fit = ap (leb (h .terms)) (lines-weights-long _ h ls _ keys _ weights loaded) ∙ le-leb _ _ (room .long′)
 
+      ops-fit : hasOps (length codes) (length reals) (h .ops) ≡ true
+      ops-fit =
+          let long : length (tableOps h codes reals) ≡ h .ops = ap length (sym e ∙ clear .sound .table) ∙ op-list-length h ls (clear .sound .laid) in
+          le-leb (h .ops) _ (omega (arith, long, slices.op-list-length (h .ops) codes reals))
+
   pub replied : {ws′ : List ℕ} {cs′ ms′ : List Float} {ix′ : List ℕ} (end : Ending) (t : ℕ) (r : Reply) → Ended h (tableRun h keys weights os) end ws ws′ cs cs′ ms ms′ ix ix′ → t ≡ tCountOf (h .run) os
       → r ≡ replyEnd (h .run) (h .qubits) t end → Replied h ls Passed r ws ws′ cs cs′ ms ms′ ix ix′
   replied {ws′} {cs′} {ms′} {ix′} end t r ended et er =
       let same : tableRun h keys weights os ≡ runOf h ls = ap (outcomeOf (h .run)) same-task in
       record {
-        reply = er ∙ ap₂ (replyEnd (h .run) (h .qubits)) (et ∙ ap (tCountOf (h .run)) (clear .sound .table)) (ended .answer ∙ ap endingOf same) ∙ reply-of-end (h .run) (taskOf h ls) (opList h ls);
+        reply = er ∙ ap₂ (replyEnd (h .run) (h .qubits)) (et ∙ ap (tCountOf (h .run)) (clear .sound .table)) (ended .answer ∙ ap endingOf same) ∙ reply-of-end (h .run) (taskOf h ls) (sheetOps h ls);
         memory = subst (λ (x : Stage Outcome). Leaves h x ws ws′ cs cs′ ms ms′ ix ix′) same (ended .memory);
       }
 
 -- ---- the steps of `answer`
 pub cleared : (h : Head) (ls : List (List ℕ)) (os : List Op) (ws : List ℕ) (cs ms : List Float) (w rows : ℕ) (v : Verdict) → earlyVerdict h ls ≡ Passed → Sound h ls os
-    → w ≡ widthOf (h .qubits) → rows ≡ rowsIn w ws cs → v ≡ laterVerdict h ls rows (length ms) → v ≡ Passed → Cleared h ls os ws cs ms
+    → w ≡ widthOf (h .qubits) → rows ≡ rowsIn w ws cs → v ≡ laterVerdict h ls rows (length ms) → v ≡ Passed → CanRun h ls os ws cs ms
 cleared h ls os ws cs ms w rows v e sound ew er ev f = record {
   sound = sound;
   passed = early-passed h ls _ _ e ∙ ap (λ (x : ℕ). laterVerdict h ls x (length ms)) (sym (er ∙ ap (λ (x : ℕ). rowsIn x ws cs) ew)) ∙ sym ev ∙ f;

@@ -11,16 +11,19 @@ use Rattle.words.specs.Keys.{bitOf, flipOf, bitAt, flipAt, allZero, sameKey}
 use Rattle.words.specs.Gates.{conjKey}
 use Rattle.terms.specs.Lists.{foldl}
 use Rattle.terms.specs.Term.{find, isIn, addTo, conjugated, allFinite}
-use Rattle.terms.specs.Start.{countY, termOf, share}
+use Rattle.words.specs.Letters.{countY}
+use Rattle.terms.specs.Start.{termOf, share}
 use Rattle.terms.specs.Rotation.{metBy, partnerBy, appendedRows, rotated}
 use Rattle.terms.specs.Channel.{dampAction, actionOf, insert, scaledLocal, channeled}
 use Rattle.terms.specs.Truncation.{keptOf}
 use Rattle.terms.specs.Met.{letterAmong}
-use Rattle.turns.specs.Ops.{tCount, onWords, act, met}
-use Rattle.turns.specs.Turn.{checked, settle, ended, finish}
-use Rattle.turns.specs.Runs.{runs, markedRun, member, touches, coneOf, markCone}
-use Rattle.runs.specs.Task.{every, lettersBelow}
-use Rattle.runs.specs.Outcome.{termsOf, foldLines, allRuns}
+use Rattle.ops.specs.Ops.{tCount, onWords}
+use Rattle.dynamics.specs.Acts.{act, met}
+use Rattle.dynamics.specs.Turn.{checked, settle, ended, finish}
+use Rattle.dynamics.specs.Runs.{runs, markedRun}
+use Rattle.ops.specs.Marks.{member, touches, coneOf, markCone}
+use Rattle.ops.specs.Task.{every, lettersBelow}
+use Rattle.dynamics.specs.Outcome.{termsOf, foldLines, allRuns}
 use Rattle.text.specs.Bytes.{bytes, onFirst, parts, index, begins}
 use Rattle.text.specs.Numerals.{steps, nextDigit, decimal, hexDigit, nextHex, hex16, decimalText, hexText}
 use Rattle.lines.specs.Fields.{runField}

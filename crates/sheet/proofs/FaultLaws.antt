@@ -11,7 +11,7 @@ use lib.ListN.{length, drop, getD, drop-of-length-le}
 use lib.Seq.{drop-cons}
 use borrow.Author.Tests.{eq-eqb, ne-eqb, ltb-true, lt-ltb}
 use Rattle.terms.proofs.CaseLaws.{and-true}
-use Rattle.runs.specs.Task.{every}
+use Rattle.ops.specs.Task.{every}
 use Rattle.lines.specs.TermLines.{allBelow, distinct}
 use Rattle.sheet.specs.declared.Verdict.{Verdict}
 use Rattle.sheet.specs.declared.Verdict.the-variants.{RefusedAt}

@@ -16,7 +16,7 @@ use Rattle.layout.specs.Cursor.{lineAt, startAt}
 use Rattle.layout.specs.Layout.{question1, termLines}
 use Rattle.layout.proofs.CursorLaws.{line-there}
 use Rattle.lines.specs.TermLines.{lineOn}
-use Rattle.turns.specs.declared.Op.{Op}
+use Rattle.ops.specs.declared.Op.{Op}
 use Rattle.sheet.specs.declared.Asked.{Asked}
 use Rattle.sheet.specs.Questions.{Question, questionOf, firstOf, _orElse_, headLine, opsLine, lineOf}
 use Rattle.sheet.specs.Asking.{Sound}

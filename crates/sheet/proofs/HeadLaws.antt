@@ -3,8 +3,8 @@ use mathlib.Core.Path.{_≡_, sym, ap, _∙_}
 use Prim.Native.Nat.{ℕ}
 use mathlib.Core.Bool.{Bool, true, false}
 use Rattle.layout.specs.declared.Head.{Head}
-use Rattle.runs.specs.declared.Run.{Run}
-use Rattle.turns.specs.declared.Op.{Op}
+use Rattle.ops.specs.declared.Run.{Run}
+use Rattle.ops.specs.declared.Op.{Op}
 use Rattle.lines.specs.TermLines.{TermLine}
 use Rattle.sheet.specs.declared.Asked.{Asked}
 use Rattle.sheet.specs.Questions.{Question, questionOf, headLine, unless, _orElse_}

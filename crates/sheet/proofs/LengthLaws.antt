@@ -14,9 +14,9 @@ use Rattle.numbers.specs.Bits.{printedBits}
 use Rattle.text.specs.Bytes.{parts, newline, bytes}
 use Rattle.text.specs.Numerals.{decimalText, natText}
 use Rattle.text.proofs.SpellLaws.{length-hexText}
-use Rattle.turns.specs.Turn.{Stage, refused, going, Outcome}
-use Rattle.runs.specs.declared.Run.{Run}
-use Rattle.runs.specs.declared.Run.the-variants.{Full, Cone, All, Path, Wide}
+use Rattle.dynamics.specs.Turn.{Stage, refused, going, Outcome}
+use Rattle.ops.specs.declared.Run.{Run}
+use Rattle.ops.specs.declared.Run.the-variants.{Full, Cone, All, Path, Wide}
 use Rattle.layout.specs.declared.Head.{Head}
 use Rattle.layout.specs.Layout.{headOf}
 use Rattle.replies.specs.declared.Reply.{Reply}

@@ -4,12 +4,12 @@ use Prim.Native.Nat.{ℕ}
 use mathlib.Core.Bool.{Bool, true, false, cond, _&&_}
 use mathlib.Core.List.{List, [], _∷_}
 use Rattle.words.specs.Gates.{hasTwoTargets}
-use Rattle.turns.specs.declared.Op.{Op}
-use Rattle.turns.specs.declared.Op.the-variants.{Native, T, Tdg, Rz, P, Rzz, Pauli, Depol, Damp, Phase, Thermal, Depol2, Barrier}
-use Rattle.turns.specs.declared.marks.Targets.{Targets}
-use Rattle.turns.specs.Ops.{targets}
-use Rattle.turns.specs.Marks.{packed, listOf}
-use Rattle.runs.specs.Task.{every}
+use Rattle.ops.specs.declared.Op.{Op}
+use Rattle.ops.specs.declared.Op.the-variants.{Native, T, Tdg, Rz, P, Rzz, Pauli, Depol, Damp, Phase, Thermal, Depol2, Barrier}
+use Rattle.ops.specs.declared.marks.Targets.{Targets}
+use Rattle.ops.specs.Ops.{targets}
+use Rattle.ops.specs.Sets.{packed, listOf}
+use Rattle.ops.specs.Task.{every}
 
 pub and-one : (b : Bool) → b ≡ (b && true)
 and-one true = refl

@@ -7,16 +7,18 @@ use mathlib.Core.List.{List, [], _∷_}
 use lib.Dec.{ltb, eqb}
 use lib.ListN.{length, length-append}
 use Rattle.numbers.specs.Tests.{isFinite}
-use Rattle.turns.specs.declared.Limits.{Limits}
-use Rattle.turns.specs.declared.Op.{Op}
-use Rattle.turns.specs.Turn.{Stage, refused, going, bind, ask, State, Outcome, fine, lastDrop, ended, finish}
-use Rattle.turns.specs.Runs.{runs, markedRun, markAll, begin}
-use Rattle.turns.specs.Told.{endingOf, leftBy}
+use Rattle.ops.specs.declared.Limits.{Limits}
+use Rattle.ops.specs.declared.Op.{Op}
+use Rattle.dynamics.specs.Turn.{Stage, refused, going, bind, ask, State, Outcome, fine, lastDrop, ended, finish}
+use Rattle.dynamics.specs.Runs.{runs, markedRun, begin}
+use Rattle.ops.specs.Marks.{markAll}
+use Rattle.turns.specs.SumRuns.{leftBy}
+use Rattle.turns.specs.Told.{endingOf}
 use Rattle.terms.specs.Mean.{meanOf}
-use Rattle.runs.specs.declared.Run.{Run}
-use Rattle.runs.specs.declared.Run.the-variants.{Full, Cone, All, Path, Wide}
-use Rattle.runs.specs.Task.{Line, Task, width}
-use Rattle.runs.specs.Outcome.{startOf, nothingYet, addLine, alone, foldLines, folded, askTotals, orFold, sumRun, zState, addZ, zStep, allRuns, outcomeOf, tCountOf}
+use Rattle.ops.specs.declared.Run.{Run}
+use Rattle.ops.specs.declared.Run.the-variants.{Full, Cone, All, Path, Wide}
+use Rattle.ops.specs.Task.{Line, Task, width}
+use Rattle.dynamics.specs.Outcome.{startOf, nothingYet, addLine, alone, foldLines, folded, askTotals, orFold, sumRun, zState, addZ, zStep, allRuns, outcomeOf, tCountOf}
 use Rattle.sheet.specs.Answer.{replyRun}
 use Rattle.sheet.specs.Running.{meansCount, replyEnd}
 

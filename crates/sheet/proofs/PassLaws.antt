@@ -15,18 +15,18 @@ use Rattle.terms.specs.Lists as L
 use Rattle.terms.proofs.CaseLaws.{and-true}
 use Rattle.terms.proofs.AllLaws.{all-map}
 use Rattle.text.specs.Bytes.{bytes}
-use Rattle.turns.specs.declared.Op.{Op}
-use Rattle.runs.specs.declared.Run.{Run}
-use Rattle.runs.specs.declared.Run.the-variants.{Full, Cone, All, Path, Wide}
-use Rattle.runs.specs.Task as values
-use Rattle.runs.specs.Task.{Line, Task, every, qubitsOf, isOne, pairHolds, passes}
-use Rattle.runs.specs.LightCone.{IsBinary64, RealsAreBinary64, Binary64Values}
+use Rattle.ops.specs.declared.Op.{Op}
+use Rattle.ops.specs.declared.Run.{Run}
+use Rattle.ops.specs.declared.Run.the-variants.{Full, Cone, All, Path, Wide}
+use Rattle.ops.specs.Task as values
+use Rattle.ops.specs.Task.{Line, Task, every, qubitsOf, isOne, pairHolds, passes}
+use Rattle.ops.specs.Binary.{IsBinary64, RealsAreBinary64, Binary64Values}
 use Rattle.lines.specs.TermLines.{TermLine, lineOn, qubitsIn, allBelow, wordLine}
 use Rattle.lines.specs.OpLines.{opOn}
 use Rattle.lines.proofs.BinaryLaws.{field-is, op-line-is, term-line-is}
 use Rattle.lines.proofs.WordLaws.{letters-of-word}
 use Rattle.layout.specs.declared.Head.{Head}
-use Rattle.layout.specs.Layout.{headOf, question1, termLines, opList}
+use Rattle.layout.specs.Layout.{headOf, question1, termLines, sheetOps}
 use Rattle.layout.proofs.LaidLaws.{term-lines-length, op-list-length}
 use Rattle.sheet.specs.declared.Asked.the-variants.{Two, Three, Four, Eleven}
 use Rattle.sheet.specs.declared.Verdict.{Verdict}
@@ -86,8 +86,8 @@ pub record Answers (h : Head) (ls : List (List ℕ)) (rows places : ℕ) : Type 
   pub three : lineOf Three h ls ≡ 0
   pub four : lineOf Four h ls ≡ 0
   pub eleven : lineOf Eleven h ls ≡ 0
-  pub five : Yes (question5 h) (termLines h ls) (opList h ls)
-  pub six : Yes question6 (termLines h ls) (opList h ls)
+  pub five : Yes (question5 h) (termLines h ls) (sheetOps h ls)
+  pub six : Yes question6 (termLines h ls) (sheetOps h ls)
   pub room : question7 h rows places ≡ true
 
 pub answers-of : (h : Head) (ls : List (List ℕ)) (rows places : ℕ) → verdict h ls rows places ≡ Passed → Answers h ls rows places
@@ -98,8 +98,8 @@ answers-of h ls rows places e =
     let c = refused-none 3 _ _ (b .1) in
     let d = refused-none 4 _ _ (c .1) in
     let e′ = refused-none 11 _ _ (d .1) in
-    let f = faults-none (question5 h .term) (question6 .term) 7 (termLines h ls) (firstFault (opFault h) (8 + h .terms) (opList h ls) (roomVerdict h rows places)) (e′ .1) in
-    let g = faults-none (question5 h .op) (question6 .op) (8 + h .terms) (opList h ls) (roomVerdict h rows places) (f .1 .1) in
+    let f = faults-none (question5 h .term) (question6 .term) 7 (termLines h ls) (firstFault (opFault h) (8 + h .terms) (sheetOps h ls) (roomVerdict h rows places)) (e′ .1) in
+    let g = faults-none (question5 h .op) (question6 .op) (8 + h .terms) (sheetOps h ls) (roomVerdict h rows places) (f .1 .1) in
     record {
       laid = a .0;
       two = b .0;
@@ -166,7 +166,7 @@ pub record Bounds (h : Head) (rows : ℕ) : Type 0 where
 
 pub bounds-of : (h : Head) (ls : List (List ℕ)) (rows places : ℕ) → Answers h ls rows places → Bounds h rows
 bounds-of h ls rows places a =
-    let y = yes-of (question2 h) (h .terms) (termLines h ls) (opList h ls) (a .two) in
+    let y = yes-of (question2 h) (h .terms) (termLines h ls) (sheetOps h ls) (a .two) in
     let n = and-true (leb 1 (h .qubits)) (leb (h .qubits) 256) (y .qubits) in
     let m = and-true (leb 1 (h .limit)) (leb (h .limit) 1048576) (y .limit) in
     let t = and-true (leb (h .terms) 1024) (leb (h .terms) (h .limit)) (y .terms) in
@@ -210,8 +210,8 @@ one-line w (l ∷ m ∷ ls) e h = absurd (not-one (length ls) e)
 
 -- question 3, of values that stand on n lines
 three-passes : (r : Run) (n w : ℕ) (ls : List TermLine) (t : Task) → t .lines ≡ map (wordLine w) ls → length ls ≡ n → countFits r n ≡ true
-    → every (λ (l : TermLine). weightFits r (l .weight)) ls ≡ true → every (channelFits r) (t .ops) ≡ true → values.question3 r t ≡ true
-unfolding values.question3
+    → every (λ (l : TermLine). weightFits r (l .weight)) ls ≡ true → every (channelFits r) (t .ops) ≡ true → values.runFits r t ≡ true
+unfolding values.runFits
 three-passes Full n w ls t k e c f g = g
 three-passes Cone n w ls t k e c f g = ap₂ _&&_ (ap isOne k ∙ one-line w ls (e ∙ eqb-true n 1 c) f) g
 three-passes All n w ls t k e c f g = ap₂ _&&_ (ap (λ (l : List Line). eqb (length l) 0) k ∙ ap (λ (m : ℕ). eqb m 0) (length-map ls (wordLine w) ∙ e) ∙ c) g
@@ -222,14 +222,14 @@ module _ (h : Head) (ls : List (List ℕ)) (rows places : ℕ) (a : Answers h ls
   abbrev width : ℕ
   width = widthOf (h .qubits)
 
-  line-yes : (q : Question) → firstNo q (h .terms) (termLines h ls) (opList h ls) ≡ 0 → Yes q (termLines h ls) (opList h ls)
-  line-yes q e = yes-of q (h .terms) (termLines h ls) (opList h ls) e
+  line-yes : (q : Question) → firstNo q (h .terms) (termLines h ls) (sheetOps h ls) ≡ 0 → Yes q (termLines h ls) (sheetOps h ls)
+  line-yes q e = yes-of q (h .terms) (termLines h ls) (sheetOps h ls) e
 
   lines-are : length (map (wordLine width) (termLines h ls)) ≡ h .terms
   lines-are = length-map (termLines h ls) (wordLine width) ∙ term-lines-length h ls (a .laid)
 
-  two-true : values.question2 (taskOf h ls) ≡ true
-  unfolding values.question2
+  two-true : values.sizesFit (taskOf h ls) ≡ true
+  unfolding values.sizesFit
   two-true =
       let y = line-yes (question2 h) (a .two) in
       let t = and-true (leb (h .terms) 1024) (leb (h .terms) (h .limit)) (y .terms) in
@@ -237,24 +237,24 @@ module _ (h : Head) (ls : List (List ℕ)) (rows places : ℕ) (a : Answers h ls
       (ap₂ _&&_ (ap₂ _&&_ (ap (λ (n : ℕ). leb n 1024) lines-are ∙ t .0) (ap (λ (n : ℕ). leb n (h .limit)) lines-are ∙ t .1))
       (ap (λ (n : ℕ). leb n 4096) (op-list-length h ls (a .laid)) ∙ y .ops))
 
-  three-true : values.question3 (h .run) (taskOf h ls) ≡ true
+  three-true : values.runFits (h .run) (taskOf h ls) ≡ true
   three-true =
       let y = line-yes (question3 h) (a .three) in
       three-passes (h .run) (h .terms) width (termLines h ls) (taskOf h ls) refl (term-lines-length h ls (a .laid)) (y .terms) (y .term) (y .op)
 
-  four-true : values.question4 (taskOf h ls) ≡ true
-  unfolding values.question4
+  four-true : values.realsInRange (taskOf h ls) ≡ true
+  unfolding values.realsInRange
   four-true =
       let y = line-yes (question4 h) (a .four) in
       ap₂ _&&_ (ap₂ _&&_ (y .epsilon) (every-map (wordLine width) (λ (l : TermLine). isFinite (l .weight)) (λ (l : Line). isFinite (l .weight)) (λ l e. e) (termLines h ls) (y .term)))
       (y .op)
 
-  eleven-true : values.question11 (taskOf h ls) ≡ true
-  unfolding values.question11
+  eleven-true : values.anglesHold (taskOf h ls) ≡ true
+  unfolding values.anglesHold
   eleven-true = line-yes question11 (a .eleven) .op
 
-  five-true : values.question5 (taskOf h ls) ≡ true
-  unfolding values.question5
+  five-true : values.qubitsBelow (taskOf h ls) ≡ true
+  unfolding values.qubitsBelow
   five-true =
       let y = a .five in
       let n = h .qubits in
@@ -263,8 +263,8 @@ module _ (h : Head) (ls : List (List ℕ)) (rows places : ℕ) (a : Answers h ls
       (λ l e. letters-of-word width n (l .factors) e (omega arith)) (termLines h ls) (y .term))
       (y .op)
 
-  six-true : values.question6 (taskOf h ls) ≡ true
-  unfolding values.question6
+  six-true : values.targetsDiffer (taskOf h ls) ≡ true
+  unfolding values.targetsDiffer
   six-true = a .six .op
 
   pub answers-pass : passes (h .run) (taskOf h ls) ≡ true
@@ -274,8 +274,8 @@ pub passed-passes : (h : Head) (ls : List (List ℕ)) (rows places : ℕ) → ve
 passed-passes h ls rows places e = answers-pass h ls rows places (answers-of h ls rows places e)
 
 -- "All that was promised of rotations is now read for these pairs and rates only": every op of a sheet that passed has such a pair, or none
-pub passed-pairs : (h : Head) (ls : List (List ℕ)) (rows places : ℕ) → verdict h ls rows places ≡ Passed → every pairHolds (opList h ls) ≡ true
-passed-pairs h ls rows places e = yes-of question11 (h .terms) (termLines h ls) (opList h ls) (answers-of h ls rows places e .eleven) .op
+pub passed-pairs : (h : Head) (ls : List (List ℕ)) (rows places : ℕ) → verdict h ls rows places ≡ Passed → every pairHolds (sheetOps h ls) ≡ true
+passed-pairs h ls rows places e = yes-of question11 (h .terms) (termLines h ls) (sheetOps h ls) (answers-of h ls rows places e .eleven) .op
 
 -- ---- the reals of a sheet are binary64, whether it passes or not
 epsilon-is : (ls : List (List ℕ)) → IsBinary64 (headOf ls .epsilon)

@@ -13,12 +13,12 @@ use Rattle.words.specs.Keys.{widthOf}
 use Rattle.terms.proofs.CaseLaws.{and-true}
 use Rattle.rows.specs.Rows.{rowsIn}
 use Rattle.text.specs.Bytes.{parts, newline}
-use Rattle.turns.specs.declared.Op.{Op}
-use Rattle.turns.specs.Turn.{Stage, refused, going, Outcome}
-use Rattle.runs.specs.declared.Run.{Run}
-use Rattle.runs.specs.declared.Run.the-variants.{Full, Cone, All, Path, Wide}
+use Rattle.ops.specs.declared.Op.{Op}
+use Rattle.dynamics.specs.Turn.{Stage, refused, going, Outcome}
+use Rattle.ops.specs.declared.Run.{Run}
+use Rattle.ops.specs.declared.Run.the-variants.{Full, Cone, All, Path, Wide}
 use Rattle.layout.specs.declared.Head.{Head}
-use Rattle.layout.specs.Layout.{headOf, termLines, opList}
+use Rattle.layout.specs.Layout.{headOf, termLines, sheetOps}
 use Rattle.replies.specs.declared.Reply.{Reply}
 use Rattle.replies.specs.Printed.{printed}
 use Rattle.replies.specs.Written.{Printing}
@@ -57,7 +57,7 @@ verdict-rows h ls ws cs places ew ec = go (earlyVerdict h ls) refl
     go : (v : Verdict) → earlyVerdict h ls ≡ v → verdict h ls (rowsIn (widthOf (h .qubits)) ws cs) places ≡ verdict h ls 512 places
     go (RefusedAt n k) e = early-refused h ls _ places n k e ∙ sym (early-refused h ls 512 places n k e)
     go Passed e =
-        let y = yes-of (question2 h) (h .terms) (termLines h ls) (opList h ls) (early-laid h ls e .1) in
+        let y = yes-of (question2 h) (h .terms) (termLines h ls) (sheetOps h ls) (early-laid h ls e .1) in
         let n = and-true (leb 1 (h .qubits)) (leb (h .qubits) 256) (y .qubits) in
         ap (λ (r : ℕ). verdict h ls r places) (rows-are (h .qubits) ws cs (leb-true 1 (h .qubits) (n .0)) (leb-true (h .qubits) 256 (n .1)) ew ec)
 
@@ -93,7 +93,7 @@ verdict-printed : (h : Head) (ls : List (List ℕ)) (v : Verdict) (ws ws′ : Li
     → printed (replyTo h ls v) ms′ ≡ printed (replyTo h ls v) (meansTo h ls v)
 verdict-printed h ls (RefusedAt n k) ws ws′ cs cs′ ms ms′ ix ix′ l = refusal-places n k ms′ []
 verdict-printed h ls Passed ws ws′ cs cs′ ms ms′ ix ix′ l =
-    run-printed h (opList h ls) (runOf h ls) ms ms′ (outcome-means (h .run) (taskOf h ls)) (l .means)
+    run-printed h (sheetOps h ls) (runOf h ls) ms ms′ (outcome-means (h .run) (taskOf h ls)) (l .means)
 
 -- ---- the answer, printed
 pub answer-text : {ws ws′ : List ℕ} {cs cs′ ms ms′ : List Float} {ix ix′ : List ℕ} (s : List ℕ) (r : Reply) → Answered s r ws ws′ cs cs′ ms ms′ ix ix′

@@ -6,8 +6,8 @@ use mathlib.Core.List.{List, [], _∷_}
 use lib.IntN.{pos}
 use Rattle.numbers.specs.Constants.{zero64, cosineT}
 use Rattle.terms.specs.Lists.{none, more}
-use Rattle.turns.specs.MarkedOps.{chosen}
-use Rattle.runs.specs.LightCone.{Equal, Which, one, another, Way, asFull, asCone, Agree}
+use Rattle.ops.specs.SameOps.{chosen}
+use Rattle.cones.specs.LightCone.{Equal, Which, one, another, Way, asFull, asCone, Agree}
 use Rattle.replies.specs.declared.Reply.{Reply}
 use Rattle.replies.specs.Printed.{printed}
 use Rattle.sheet.specs.Answer.{reply, replyOf}

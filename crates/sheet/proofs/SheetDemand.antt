@@ -14,14 +14,15 @@ use Rattle.numbers.proofs.CloseLaws.{shown-≈, printed-bits-≈}
 use Rattle.words.specs.Keys.{widthOf}
 use Rattle.terms.specs.Lists.{All}
 use Rattle.text.specs.Bytes.{bytes, onFirst, parts, newline, begins}
-use Rattle.turns.specs.declared.Op.{Op}
-use Rattle.turns.specs.Turn.{Stage, Outcome}
-use Rattle.turns.proofs.Alike.{Like, stops, goes, NearEnd}
-use Rattle.runs.specs.declared.Run.{Run}
-use Rattle.runs.specs.Task.{Task, passes}
-use Rattle.runs.specs.Outcome.{outcomeOf}
-use Rattle.runs.specs.LightCone.{Which, one, another, Way, asFull, asCone, pick, runAs, Passes, Binary64Values, Agree, SameEnd, sameRefusal, bothSucceed, endAs, Demand}
-use Rattle.runs.proofs.Demand.{demand3, near-ends}
+use Rattle.ops.specs.declared.Op.{Op}
+use Rattle.dynamics.specs.Turn.{Stage, Outcome}
+use Rattle.dynamics.proofs.Alike.{Like, stops, goes, NearEnd}
+use Rattle.ops.specs.declared.Run.{Run}
+use Rattle.ops.specs.Task.{Task, passes}
+use Rattle.dynamics.specs.Outcome.{outcomeOf}
+use Rattle.cones.specs.LightCone.{Which, one, another, Way, asFull, asCone, pick, runAs, Passes, Agree, SameEnd, sameRefusal, bothSucceed, endAs, Demand}
+use Rattle.ops.specs.Binary.{Binary64Values}
+use Rattle.cones.proofs.Demand.{demand3, near-ends}
 use Rattle.lines.specs.Fields.{count, runField, orZero, orFull}
 use Rattle.lines.specs.TermLines.{wordLine, lineOn}
 use Rattle.lines.specs.OpLines.{opOn}

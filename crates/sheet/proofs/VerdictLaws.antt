@@ -8,7 +8,7 @@ use lib.Dec.{leb}
 use borrow.Author.Tests.{ne-eqb, eq-eqb, le-leb, lt-leb, leb-true}
 use Rattle.terms.proofs.CaseLaws.{and-true}
 use Rattle.layout.specs.declared.Head.{Head}
-use Rattle.layout.specs.Layout.{termLines, opList}
+use Rattle.layout.specs.Layout.{termLines, sheetOps}
 use Rattle.sheet.specs.declared.Asked.the-variants.{Two}
 use Rattle.sheet.specs.declared.Verdict.{Verdict}
 use Rattle.sheet.specs.declared.Verdict.the-variants.{RefusedAt, Passed}
@@ -35,8 +35,8 @@ or-none false t = ap (λ (x : Bool). cond x 0 (7 + t)) (ne-eqb (7 + t) 0 (λ z. 
 
 two-is : (h : Head) (ls : List (List ℕ)) → lineOf Two h ls ≡ (headLine (question2 h) orElse unless (question2 h .ops) (7 + h .terms))
 two-is h ls =
-    ap (λ (x : ℕ). headLine (question2 h) orElse (x orElse opsLine (question2 h) (h .terms) (opList h ls))) (yes-all 7 (termLines h ls))
-    ∙ ap (λ (x : ℕ). headLine (question2 h) orElse (unless (question2 h .ops) (7 + h .terms) orElse x)) (yes-all (8 + h .terms) (opList h ls))
+    ap (λ (x : ℕ). headLine (question2 h) orElse (x orElse opsLine (question2 h) (h .terms) (sheetOps h ls))) (yes-all 7 (termLines h ls))
+    ∙ ap (λ (x : ℕ). headLine (question2 h) orElse (unless (question2 h .ops) (7 + h .terms) orElse x)) (yes-all (8 + h .terms) (sheetOps h ls))
     ∙ ap (λ (x : ℕ). headLine (question2 h) orElse x) (or-none (question2 h .ops) (h .terms))
 
 module _ (h : Head) (m : ℕ) (e : m ≡ headLine (question2 h)) where

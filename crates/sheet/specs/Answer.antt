@@ -10,18 +10,18 @@ use Rattle.numbers.specs.Shown.{shownOf}
 use Rattle.words.specs.Keys.{widthOf}
 use Rattle.rows.specs.Rows.{rowsIn, wordsWith, coeffsWith}
 use Rattle.text.specs.Bytes.{parts, newline}
-use Rattle.turns.specs.declared.Limits.{Limits}
-use Rattle.turns.specs.declared.Op.{Op}
-use Rattle.turns.specs.Turn.{Stage, refused, going, Outcome}
-use Rattle.turns.specs.Told.{leftBy}
-use Rattle.runs.specs.declared.Run.{Run}
-use Rattle.runs.specs.declared.Run.the-variants.{Full, Cone, All, Path, Wide}
-use Rattle.runs.specs.Task.{Task}
-use Rattle.runs.specs.Outcome.{outcomeOf, tCountOf}
-use Rattle.runs.specs.Means.{meansOf}
+use Rattle.ops.specs.declared.Limits.{Limits}
+use Rattle.ops.specs.declared.Op.{Op}
+use Rattle.dynamics.specs.Turn.{Stage, refused, going, Outcome}
+use Rattle.turns.specs.SumRuns.{leftBy}
+use Rattle.ops.specs.declared.Run.{Run}
+use Rattle.ops.specs.declared.Run.the-variants.{Full, Cone, All, Path, Wide}
+use Rattle.ops.specs.Task.{Task}
+use Rattle.dynamics.specs.Outcome.{outcomeOf, tCountOf}
+use Rattle.turns.specs.AllRuns.{meansOf}
 use Rattle.layout.specs.declared.Head.{Head}
 use Rattle.lines.specs.TermLines.{wordLine}
-use Rattle.layout.specs.Layout.{headOf, termLines, opList}
+use Rattle.layout.specs.Layout.{headOf, termLines, sheetOps}
 use Rattle.replies.specs.declared.Reply.{Reply}
 use Rattle.replies.specs.Printed.{printed}
 use Rattle.sheet.specs.declared.Verdict.{Verdict}
@@ -39,7 +39,7 @@ taskOf h ls = record {
   qubits = h .qubits;
   limits = limitsOf h;
   lines = map (wordLine (widthOf (h .qubits))) (termLines h ls);
-  ops = opList h ls;
+  ops = sheetOps h ls;
 }
 
 abbrev pub runOf : Head → List (List ℕ) → Stage Outcome
@@ -66,7 +66,7 @@ replyRun r ops (going o) = success r ops o
 
 abbrev pub replyTo : Head → List (List ℕ) → Verdict → Reply
 replyTo h ls (RefusedAt n k) = refusal n k
-replyTo h ls Passed = replyRun (h .run) (opList h ls) (runOf h ls)
+replyTo h ls Passed = replyRun (h .run) (sheetOps h ls) (runOf h ls)
 
 -- the reply to the bytes of a sheet, with so many rows and mean places lent
 unfoldable pub replyOf : List ℕ → ℕ → ℕ → Reply

@@ -3,10 +3,10 @@ use mathlib.Core.Path.{_≡_}
 use Prim.Native.Nat.{ℕ, _≤_}
 use mathlib.Core.List.{List}
 use lib.Ieee.{Float}
-use Rattle.turns.specs.declared.Op.{Op}
-use Rattle.turns.specs.OpList as T
+use Rattle.ops.specs.declared.Op.{Op}
+use Rattle.ops.specs.OpList as T
 use Rattle.layout.specs.declared.Head.{Head}
-use Rattle.layout.specs.Layout.{question1, opList}
+use Rattle.layout.specs.Layout.{question1, sheetOps}
 use Rattle.sheet.specs.declared.Asked.the-variants.{Two, Three, Four, Eleven}
 use Rattle.sheet.specs.declared.Verdict.{Verdict}
 use Rattle.sheet.specs.declared.Verdict.the-variants.{Passed}
@@ -23,7 +23,7 @@ pub record Sound (h : Head) (ls : List (List ℕ)) (os : List Op) : Type 0 where
   pub limit : h .limit ≤ 1048576
   pub terms : h .terms ≤ 1024
   pub ops : h .ops ≤ 4096
-  pub table : os ≡ opList h ls
+  pub table : os ≡ sheetOps h ls
 
 -- question 2 asks nothing of a `term` or an `op` line, so its answer is the same for all of them
 abbrev pub IsSecond : Head → ℕ → Type 0

@@ -7,14 +7,14 @@ use lib.Dec.{leb, eqb}
 use lib.Ieee.{Float, eq}
 use Rattle.numbers.specs.Constants.{one64}
 use Rattle.numbers.specs.Tests.{isFinite, isEpsilon}
-use Rattle.turns.specs.declared.Op.{Op}
-use Rattle.turns.specs.Ops.{shapeOf, targets}
-use Rattle.runs.specs.declared.Run.{Run}
-use Rattle.runs.specs.declared.Run.the-variants.{Full, Cone, All, Path, Wide}
-use Rattle.runs.specs.Task.{notChannel, realsFit, pairHolds, distinctTargets}
+use Rattle.ops.specs.declared.Op.{Op}
+use Rattle.ops.specs.Ops.{shapeOf, targets}
+use Rattle.ops.specs.declared.Run.{Run}
+use Rattle.ops.specs.declared.Run.the-variants.{Full, Cone, All, Path, Wide}
+use Rattle.ops.specs.Task.{notChannel, realsFit, pairHolds, distinctTargets}
 use Rattle.layout.specs.declared.Head.{Head}
 use Rattle.lines.specs.TermLines.{TermLine, qubitsIn, allBelow, distinct}
-use Rattle.layout.specs.Layout.{question1, termLines, opList}
+use Rattle.layout.specs.Layout.{question1, termLines, sheetOps}
 use Rattle.sheet.specs.declared.Asked.{Asked}
 use Rattle.sheet.specs.declared.Asked.the-variants.{Two, Three, Four, Eleven}
 use Rattle.sheet.specs.declared.Verdict.{Verdict}
@@ -169,7 +169,7 @@ abbrev pub refusedOr : ℕ → ℕ → Verdict → Verdict
 refusedOr n line v = cond (eqb line 0) v (RefusedAt n line)
 
 abbrev pub lineOf : Asked → Head → List (List ℕ) → ℕ
-lineOf a h ls = firstNo (questionOf a h) (h .terms) (termLines h ls) (opList h ls)
+lineOf a h ls = firstNo (questionOf a h) (h .terms) (termLines h ls) (sheetOps h ls)
 
 abbrev pub roomVerdict : Head → ℕ → ℕ → Verdict
 roomVerdict h rows places = cond (question7 h rows places) Passed (RefusedAt 7 0)
@@ -201,7 +201,7 @@ firstFault f k (a ∷ l) v = let r = firstFault f (suc k) l v in cond (eqb (f a)
 
 -- the `term` lines, the `op` lines, then v
 abbrev pub byLine : Head → List (List ℕ) → Verdict → Verdict
-byLine h ls v = firstFault (termFault h) 7 (termLines h ls) (firstFault (opFault h) (8 + h .terms) (opList h ls) v)
+byLine h ls v = firstFault (termFault h) 7 (termLines h ls) (firstFault (opFault h) (8 + h .terms) (sheetOps h ls) v)
 
 unfoldable pub verdict : Head → List (List ℕ) → ℕ → ℕ → Verdict
 unfolding firstFault

@@ -10,24 +10,22 @@ use Rattle.words.specs.Keys.{widthOf}
 use Rattle.rows.specs.Rows.{rowsIn}
 use Rattle.turns.specs.declared.Ending.{Ending}
 use Rattle.turns.specs.declared.Ending.the-variants.{Done, Failed}
-use Rattle.turns.specs.declared.Limits.{Limits}
-use Rattle.turns.specs.declared.Op.{Op}
-use Rattle.turns.specs.declared.Start.the-variants.{Lines}
-use Rattle.turns.specs.Turn.{Stage, Outcome}
+use Rattle.ops.specs.declared.Op.{Op}
+use Rattle.dynamics.specs.Turn.{Stage, Outcome}
 use Rattle.turns.specs.Told.{endingOf}
-use Rattle.turns.specs.Given.{isGiven}
-use Rattle.runs.specs.declared.Run.{Run}
-use Rattle.runs.specs.declared.Run.the-variants.{Full, Cone, All, Path, Wide}
-use Rattle.runs.specs.Task.{Task, passes}
-use Rattle.runs.specs.Outcome.{outcomeOf}
-use Rattle.runs.specs.Table.{taskIn}
+use Rattle.turns.specs.SumRuns.{sumFits}
+use Rattle.ops.specs.declared.Run.{Run}
+use Rattle.ops.specs.declared.Run.the-variants.{Full, Cone, All, Path, Wide}
+use Rattle.ops.specs.Task.{Task, passes}
+use Rattle.dynamics.specs.Outcome.{outcomeOf}
+use Rattle.ops.specs.LineTable.{taskIn}
 use Rattle.layout.specs.declared.Head.{Head}
 use Rattle.replies.specs.declared.Reply.{Reply}
 use Rattle.sheet.specs.declared.Verdict.{Verdict}
 use Rattle.sheet.specs.declared.Verdict.the-variants.{Passed}
 use Rattle.sheet.specs.Questions.{question7, verdict}
 use Rattle.sheet.specs.Answer.{limitsOf, reply, refusal, replyTo, Leaves, LeavesBy}
-use Rattle.sheet.specs.Asking.{Sound}
+use Rattle.sheet.specs.Asking.{tableOps, Sound}
 
 -- how many Z means a run that succeeds leaves
 abbrev pub meansCount : Run → ℕ → ℕ
@@ -47,9 +45,9 @@ abbrev pub tableTask : Head → List ℕ → List Float → List Op → Task
 tableTask h keys weights os = taskIn (h .qubits) (limitsOf h) keys weights (h .terms) os
 
 -- the table holds a task that the questions pass, and there is room
-pub record Runnable (h : Head) (keys : List ℕ) (weights : List Float) (os : List Op) (ws : List ℕ) (cs ms : List Float) : Type 0 where
-  pub pass : passes (h .run) (tableTask h keys weights os) ≡ true
-  pub given : isGiven (widthOf (h .qubits)) (h .limit) keys weights (Lines (h .terms)) ≡ true
+pub record Runnable (h : Head) (keys : List ℕ) (weights : List Float) (codes : List ℕ) (reals : List Float) (ws : List ℕ) (cs ms : List Float) : Type 0 where
+  pub pass : passes (h .run) (tableTask h keys weights (tableOps h codes reals)) ≡ true
+  pub given : sumFits (h .qubits) (limitsOf h) keys weights (h .terms) codes reals (h .ops) ≡ true
   pub room : question7 h (rowsIn (widthOf (h .qubits)) ws cs) (length ms) ≡ true
 
 -- answer and memory after the run
@@ -73,7 +71,7 @@ pub record LinesRoom (h : Head) (keys : List ℕ) (weights : List Float) : Type 
   pub long′ : h .terms ≤ length weights
 
 -- the sheet passes every question, and its op list is in a table
-pub record Cleared (h : Head) (ls : List (List ℕ)) (os : List Op) (ws : List ℕ) (cs ms : List Float) : Type 0 where
+pub record CanRun (h : Head) (ls : List (List ℕ)) (os : List Op) (ws : List ℕ) (cs ms : List Float) : Type 0 where
   pub sound : Sound h ls os
   pub passed : verdict h ls (rowsIn (widthOf (h .qubits)) ws cs) (length ms) ≡ Passed
 

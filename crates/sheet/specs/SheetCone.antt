@@ -5,8 +5,8 @@ use mathlib.Core.Path.{_≡_}
 use mathlib.Core.List.{List, [], _∷_, _++_}
 use lib.ListN.{set}
 use Rattle.text.specs.Bytes.{bytes, parts, newline}
-use Rattle.runs.specs.Task.{Task}
-use Rattle.runs.specs.LightCone.{Equal, Which, one, another, Way, asFull, asCone, pick, Agree, Demand}
+use Rattle.ops.specs.Task.{Task}
+use Rattle.cones.specs.LightCone.{Equal, Which, one, another, Way, asFull, asCone, pick, Agree, Demand}
 use Rattle.layout.specs.Layout.{headOf}
 use Rattle.replies.specs.declared.Reply.{Reply}
 use Rattle.replies.specs.Printed.{printed}

@@ -7,7 +7,7 @@ ghost use Rattle.rows.specs.Rows.{rowsIn};
 ghost use Rattle.text.specs.Bytes.{parts, newline};
 ghost use Rattle.sheet.specs.Answer.{Answered};
 ghost use Rattle.sheet.specs.Asking.{tableOps, earlyVerdict, laterVerdict};
-ghost use Rattle.sheet.specs.Running.{OpsRoom, LinesRoom, Cleared, Replied};
+ghost use Rattle.sheet.specs.Running.{OpsRoom, LinesRoom, CanRun, Replied};
 use crate::Verdict;
 use crate::replying::refusal;
 use crate::replying::reply_end;
@@ -21,7 +21,7 @@ use layout::loads::load_ops;
 use replies::Reply;
 use rows::row::rows_in;
 use runs::counts::run_t_count;
-use runs::width::width;
+use words::rows::width;
 
 // A sheet that passed every question: its lines go into a table, and its run begins.
 fn answer_passed(
@@ -36,7 +36,7 @@ fn answer_passed(
     index: &mut [u32],
     means: &mut [f64],
 ) -> Reply
-    requires { ⌜ Cleared head (parts newline (now s)) (tableOps head (now codes) (now reals)) (now words) (now coeffs) (now means) × LinesRoom head (now keys) (now weights) ⌝ }
+    requires { ⌜ CanRun head (parts newline (now s)) (tableOps head (now codes) (now reals)) (now words) (now coeffs) (now means) × LinesRoom head (now keys) (now weights) ⌝ }
     ensures { λ r. ⌜ Replied head (parts newline (now (s .entry))) Verdict.Passed r
         (now (words .entry)) (now (words .exit)) (now (coeffs .entry)) (now (coeffs .exit)) (now (means .entry)) (now (means .exit)) (now (index .entry)) (now (index .exit)) ⌝ }
 {

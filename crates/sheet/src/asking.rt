@@ -14,9 +14,9 @@ use layout::Head;
 use layout::cursor::line_at;
 use layout::cursor::next_at;
 use layout::cursor::start_at;
-use turns::Op;
-use turns::oplist::op_at;
-use turns::oplist::op_count;
+use ops::Op;
+use ops::oplist::op_at;
+use ops::oplist::op_count;
 
 fn op_fits(asked: Asked, head: Head, op: Op) -> bool
     ensures { λ r. ⌜ r ≡ questionOf asked head .op op ⌝ }

@@ -15,9 +15,9 @@ use layout::cursor::next_at;
 use layout::cursor::start_at;
 use lines::termlines::factors_below;
 use lines::termlines::factors_distinct;
-use turns::Op;
-use turns::oplist::op_at;
-use turns::oplist::op_count;
+use ops::Op;
+use ops::oplist::op_at;
+use ops::oplist::op_count;
 
 // 5 before 6 on one line, 0 if neither refuses it.
 fn fault_of(below: bool, apart: bool) -> u8

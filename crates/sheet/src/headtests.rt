@@ -4,10 +4,10 @@ ghost use mathlib.Core.Bool.{_&&_};
 ghost use lib.Dec.{leb};
 ghost use Rattle.sheet.specs.Questions.{within, countFits, questionOf, headLine};
 use crate::Asked;
-use crate::optests::both;
+use choice::both;
 use layout::Head;
 use numbers::tests::is_epsilon;
-use runs::Run;
+use ops::Run;
 
 fn is_within(a: usize, b: usize, n: usize) -> bool
     ensures { λ r. ⌜ r ≡ within a b n ⌝ }

@@ -1,24 +1,18 @@
 // What questions 3 to 6 and 11 ask of one op.
 ghost use mathlib.Core.Path.{_≡_};
-ghost use mathlib.Core.Bool.{_&&_};
 ghost use mathlib.Core.List.{[], _∷_};
-ghost use Rattle.turns.specs.Ops.{rotation, channel, shapeOf, targets};
-ghost use Rattle.turns.specs.Marks.{listOf};
-ghost use Rattle.runs.specs.Task.{every, notChannel, realFits, realsFit, pairHolds, distinctTargets};
+ghost use Rattle.ops.specs.Ops.{rotation, channel, shapeOf, targets};
+ghost use Rattle.ops.specs.Sets.{listOf};
+ghost use Rattle.ops.specs.Task.{every, notChannel, realFits, realsFit, pairHolds, distinctTargets};
 ghost use Rattle.lines.specs.TermLines.{allBelow};
 ghost use Rattle.sheet.specs.Questions.{channelFits};
+use choice::both;
 use numbers::pairs;
 use numbers::tests;
-use runs::Run;
-use turns::Op;
-use turns::marks::Targets;
-use turns::marks::targets_of;
-
-pub(crate) fn both(a: bool, b: bool) -> bool
-    ensures { λ r. ⌜ r ≡ a && b ⌝ }
-{
-    if a { b } else { false }
-}
+use ops::Op;
+use ops::Run;
+use ops::marks::Targets;
+use ops::marks::targets_of;
 
 fn is_no_channel(op: Op) -> bool
     ensures { λ r. ⌜ r ≡ notChannel (shapeOf op .sort) ⌝ }

@@ -3,8 +3,8 @@ ghost use mathlib.Core.Path.{_≡_};
 ghost use Rattle.sheet.specs.Answer.{refusal};
 ghost use Rattle.sheet.specs.Running.{meansCount, replyEnd};
 use numbers::shown::shown;
+use ops::Run;
 use replies::Reply;
-use runs::Run;
 use turns::Ending;
 
 // A refusal's number and line, and zeros for all results.

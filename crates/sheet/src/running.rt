@@ -4,14 +4,14 @@ ghost use Rattle.sheet.specs.Answer.{limitsOf};
 ghost use Rattle.sheet.specs.Asking.{tableOps};
 ghost use Rattle.sheet.specs.Running.{Runnable, Ended, tableRun};
 use layout::Head;
-use runs::Run;
-use runs::all::run_spd_lowered;
+use ops::Limits;
+use ops::Run;
 use runs::observable::run_pauli_path_light_cone;
 use runs::observable::run_pauli_path_weighted_observable;
 use runs::observable::run_spd_observable_light_cone;
 use runs::observable::run_spd_weighted_observable_with;
 use turns::Ending;
-use turns::Limits;
+use turns::all::run_spd_lowered;
 
 // The run that the sheet names, of the lines and ops in a table.
 pub(crate) fn run_table(
@@ -25,7 +25,7 @@ pub(crate) fn run_table(
     index: &mut [u32],
     means: &mut [f64],
 ) -> Ending
-    requires { ⌜ Runnable head (now keys) (now weights) (tableOps head (now codes) (now reals)) (now words) (now coeffs) (now means) ⌝ }
+    requires { ⌜ Runnable head (now keys) (now weights) (now codes) (now reals) (now words) (now coeffs) (now means) ⌝ }
     ensures { λ r. ⌜ Ended head (tableRun head (now (keys .entry)) (now (weights .entry)) (tableOps head (now (codes .entry)) (now (reals .entry)))) r
         (now (words .entry)) (now (words .exit)) (now (coeffs .entry)) (now (coeffs .exit)) (now (means .entry)) (now (means .exit)) (now (index .entry)) (now (index .exit)) ⌝ }
 {

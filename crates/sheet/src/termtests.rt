@@ -6,7 +6,7 @@ use crate::Asked;
 use layout::Head;
 use lines::termlines::weight_on;
 use numbers::tests::is_finite;
-use runs::Run;
+use ops::Run;
 
 // Question 3: the term of `cone` has weight 1.0.
 fn weight_fits(run: Run, x: f64) -> bool

@@ -12,7 +12,7 @@ use crate::headtests::head_line;
 use crate::headtests::ops_fit;
 use layout::Head;
 use layout::laid::first_bad_line;
-use runs::Run;
+use ops::Run;
 
 // Question 2, which asks nothing of a `term` or an `op` line.
 fn second_line(head: Head) -> usize

@@ -17,12 +17,12 @@ use Rattle.words.specs.Gates.{bitsAt, conjKey, conjPhase, hasPhase}
 use Rattle.words.proofs.GateLaws.{conjKey-length, no-phase}
 use Rattle.words.proofs.RowSteps.{part-is, part-back}
 use Rattle.terms.specs.Lists.{mapTo}
-use Rattle.terms.specs.Start.{ysOf}
-use Rattle.terms.specs.Letters.{isOdd}
+use Rattle.words.specs.Letters.{ysOf, isOdd}
 use Rattle.terms.specs.Coefficient.{signed, negates, asksWord}
 use Rattle.terms.proofs.SignLaws.{negates-turns, phaseless, asks}
 use Rattle.terms.specs.Term.{Term, oddY, conjugated}
-use Rattle.rows.specs.Rows.{keyAt, coeffAt, termAt, rowsIn, putKey, putCoeff, Holds}
+use Rattle.words.specs.Rows.{keyAt}
+use Rattle.rows.specs.Rows.{coeffAt, termAt, rowsIn, putKey, putCoeff, Holds}
 use Rattle.rows.proofs.RowLaws.{length-key, put-val-same}
 use Rattle.rows.proofs.HoldLaws.{hold-map-row, room-at}
 use Rattle.rows.proofs.StepLaws.{rows-room, held-rows}

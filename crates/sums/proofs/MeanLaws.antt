@@ -2,7 +2,7 @@
 use mathlib.Core.Path.{_≡_, refl, sym, ap, _∙_}
 use mathlib.Core.Bool.{Bool, true, false, cond, _&&_, and-true, and-assoc}
 use mathlib.Core.List.{List, [], _∷_}
-use Prim.Native.Nat.{ℕ, zero, suc, _+_, _-_, _*_, _/_, _≤_, _<_, zero-le, suc-le-suc}
+use Prim.Native.Nat.{ℕ, zero, suc, _+_, _-_, _*_, _≤_, _<_, zero-le, suc-le-suc}
 use native.Mathlib.Numerals.{add-one}
 use native.Mathlib.Omega.{arith}
 use lib.Dec.{eqb}
@@ -17,7 +17,8 @@ use Rattle.terms.specs.Coefficient.{finiteOf}
 use Rattle.terms.specs.Lists.{tab}
 use Rattle.terms.specs.Term.{Term, allFinite}
 use Rattle.terms.proofs.CaseLaws.{and-false}
-use Rattle.rows.specs.Rows.{keyAt, coeffAt, termAt, termsIn}
+use Rattle.words.specs.Rows.{keyAt}
+use Rattle.rows.specs.Rows.{coeffAt, termAt, termsIn}
 use Rattle.sums.specs.Steps.{finiteRows}
 
 -- ---- words that are all 0

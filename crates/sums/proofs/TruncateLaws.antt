@@ -15,7 +15,8 @@ use Rattle.terms.specs.Term.{Term}
 use Rattle.terms.specs.Truncation.{isSmall, keptOf, addDropped, droppedOf}
 use Rattle.terms.proofs.ListLaws.{tab-snoc, fold-tab}
 use Rattle.sums.specs.declared.Kept.{Kept}
-use Rattle.rows.specs.Rows.{keyAt, coeffAt, termAt, termsIn, rowsIn, putCoeff, putKey, Holds, Room}
+use Rattle.words.specs.Rows.{keyAt}
+use Rattle.rows.specs.Rows.{coeffAt, termAt, termsIn, rowsIn, putCoeff, putKey, Holds, Room}
 use Rattle.sums.specs.Steps.{KeptRow, Truncated}
 use Rattle.rows.specs.Cleared.{Cleared}
 use Rattle.rows.proofs.RowLaws.{length-key, key-put-other, val-put-other}

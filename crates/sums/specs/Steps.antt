@@ -10,7 +10,8 @@ use Rattle.terms.specs.Coefficient.{sizeOf}
 use Rattle.terms.specs.Term.{allFinite}
 use Rattle.terms.specs.Truncation.{isSmall, keptOf, droppedOf}
 use Rattle.sums.specs.declared.Kept.{Kept}
-use Rattle.rows.specs.Rows.{keyAt, coeffAt, termAt, termsIn, rowsIn, putKey, putCoeff, Stepped}
+use Rattle.words.specs.Rows.{keyAt}
+use Rattle.rows.specs.Rows.{coeffAt, termAt, termsIn, rowsIn, putKey, putCoeff, Stepped}
 
 -- ---- truncation
 

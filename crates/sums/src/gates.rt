@@ -5,7 +5,7 @@ ghost use mathlib.Core.List.{map};
 ghost use Prim.Native.Nat.{_+_, _*_, _%_, _≤_, _<_};
 ghost use lib.Dec.{ltb};
 ghost use Rattle.words.specs.Gates.{bitsAt, conjKey};
-ghost use Rattle.terms.specs.Start.{ysOf};
+ghost use Rattle.words.specs.Letters.{ysOf};
 ghost use Rattle.terms.specs.Coefficient.{signed, negates, asksWord};
 ghost use Rattle.terms.specs.Term.{oddY, conjugated};
 ghost use Rattle.terms.specs.Met.{gateTargets};
@@ -13,20 +13,17 @@ ghost use Rattle.rows.specs.Rows.{termAt, termsIn, rowsIn, metIn, putKey, putCo
 use rows::letters::has_targets;
 use rows::letters::met_rows;
 use rows::row;
-use terms::parity;
+use terms::number::asks_word;
 use words::Gate;
 use words::gates::has_phase;
 use words::gates::has_two_targets;
+use words::letters::y_parity;
 
 // The parity of a word's Y letters, where the gate's sign takes it, else 0.
 fn parity_for(key: &[u64], w: usize, gate: Gate) -> usize
     ensures { λ r. ⌜ r ≡ cond (asksWord gate) (ysOf w (now (key .entry)) % 2) 0 ⌝ }
 {
-    if parity::asks_word(gate) {
-        parity::y_parity(key, w)
-    } else {
-        0
-    }
+    if asks_word(gate) { y_parity(key, w) } else { 0 }
 }
 
 fn wide(n: u8) -> usize

@@ -1,6 +1,6 @@
 // The mean of a sum, and whether its coefficients are finite.
 ghost use mathlib.Core.Path.{_≡_};
-ghost use mathlib.Core.Bool.{cond, _&&_};
+ghost use mathlib.Core.Bool.{cond};
 ghost use Prim.Native.Nat.{_+_, _*_, _≤_, _<_};
 ghost use lib.Dec.{leb};
 ghost use lib.ListN.{length, take, drop};
@@ -9,6 +9,7 @@ ghost use Rattle.words.specs.Keys.{allZero};
 ghost use Rattle.terms.specs.Mean.{addMean, meanOf};
 ghost use Rattle.rows.specs.Rows.{termAt, termsIn, rowsIn};
 ghost use Rattle.sums.specs.Steps.{finiteRows};
+use choice::both;
 use numbers::tests::is_finite;
 use rows::row;
 
@@ -63,12 +64,6 @@ pub fn diagonal_expectation(words: &[u64], coeffs: &[f64], w: usize, n: usize) -
         return mean_rows(words, coeffs, w, n);
     }
     0.0
-}
-
-fn both(p: bool, q: bool) -> bool
-    ensures { λ r. ⌜ r ≡ (p && q) ⌝ }
-{
-    if p { q } else { false }
 }
 
 // Whether the first n coefficients are there and finite. Every number is tested, with no early end, so that the compiler can test

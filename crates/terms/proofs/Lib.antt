@@ -17,5 +17,4 @@ pub mod SignLaws
 pub mod TargetLaws
 pub mod NearSteps
 pub mod LetterSteps
-pub mod OnesLaws
 pub mod MetLaws

@@ -17,7 +17,7 @@ use Rattle.words.specs.Gates.{conjPhase, meets}
 use Rattle.words.proofs.EveryGate as E
 use Rattle.words.proofs.GateLaws.{unmet-phase}
 use Rattle.terms.specs.Coefficient.{signed, flippedOf, negates, asksWord}
-use Rattle.terms.specs.Letters.{isOdd}
+use Rattle.words.specs.Letters.{isOdd}
 
 abbrev pub turnSign : Bool → ℕ → Bool
 turnSign b r = ltb 1 ((cond b 1 0 + r) % 4)

@@ -20,7 +20,7 @@ use Rattle.words.proofs.GateLaws.{changed, changed-length, changed-x, changed-z
 use Rattle.terms.proofs.CaseLaws.{and-true}
 use Rattle.terms.specs.declared.Axis.{Axis}
 use Rattle.terms.specs.declared.Axis.the-variants.{Z, Zz}
-use Rattle.terms.specs.Letters.{countY, ysOf, isOdd}
+use Rattle.words.specs.Letters.{countY, ysOf, isOdd}
 use Rattle.terms.specs.Term.{oddY}
 use Rattle.terms.specs.Rotation.{metBy, partnerBy, onKey}
 

@@ -6,7 +6,6 @@
 --   Letters       how many letters are Y          Met          how many terms have a letter at given qubits
 pub mod Lists
 pub mod Coefficient
-pub mod Letters
 pub mod Term
 pub mod Start
 pub mod Rotation

@@ -1,13 +1,13 @@
 -- The terms with which a run starts, from the words and weights of the `term` lines.
 use Prim.Native.Nat.{ℕ, _%_}
-use mathlib.Core.Bool.{cond, not}
+use mathlib.Core.Bool.{cond}
 use mathlib.Core.List.{List, [], _∷_, _++_}
 use lib.Dec.{ltb}
 use lib.Ieee.{Float}
 use Rattle.numbers.specs.Constants.{zero64}
 use Rattle.words.specs.Keys.{Key}
+use Rattle.words.specs.Letters.{ysOf}
 use Rattle.terms.specs.Lists.{foldl}
-unfoldable pub use Rattle.terms.specs.Letters.{countY, ysOf}
 use Rattle.terms.specs.Coefficient.{signed}
 use Rattle.terms.specs.Term.{Term, term, isIn, addTo}
 

@@ -10,7 +10,7 @@ use Rattle.numbers.specs.Tests.{isFinite}
 use Rattle.words.specs.declared.Gate.{Gate}
 use Rattle.words.specs.Keys.{Key, sameKey, Words}
 use Rattle.words.specs.Gates.{bitsAt, conjKey}
-use Rattle.terms.specs.Letters.{ysOf, isOdd}
+use Rattle.words.specs.Letters.{ysOf, isOdd}
 use Rattle.terms.specs.Coefficient.{signed, plusOf, negates}
 
 pub record Term : Type 0 where

@@ -1,7 +1,6 @@
 // Terms of a weighted Pauli sum: the one real of a coefficient, the parity of a word, and what a noise channel does to the letters of a word.
 pub mod channels;
 pub mod number;
-pub mod parity;
 
 // What a search over rows finds.
 pub enum Found {

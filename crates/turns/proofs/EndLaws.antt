@@ -21,26 +21,27 @@ use Rattle.rows.proofs.HoldLaws.{hold-start, hold-wide}
 use Rattle.rows.proofs.StepLaws.{held-rows}
 use Rattle.sums.proofs.MeanLaws.{finite-terms}
 use Rattle.turns.specs.declared.turn.Left.{Left}
-use Rattle.turns.specs.declared.Limits.{Limits}
+use Rattle.ops.specs.declared.Limits.{Limits}
 use Rattle.turns.specs.declared.Tally.{Tally}
 use Rattle.turns.specs.declared.Turned.{Turned}
 use Rattle.turns.specs.declared.Turned.the-variants.{Going, Refused}
 use Rattle.turns.specs.declared.Ending.{Ending}
 use Rattle.turns.specs.declared.Ending.the-variants.{Done, Failed}
-use Rattle.turns.specs.Turn.{going, bind, ask, State, fine, dropSmall, Outcome, outcome, lastDrop, finish}
-use Rattle.turns.specs.Told.{tally, endingOf, leftBy, stateIn, stageIn, countOf, fineIn, Ready, Ends, Leaves}
+use Rattle.dynamics.specs.Turn.{going, bind, ask, State, fine, dropSmall, Outcome, outcome, lastDrop, finish}
+use Rattle.turns.specs.SumRuns.{leftBy}
+use Rattle.turns.specs.Told.{tally, endingOf, stateIn, stageIn, countOf, fineIn, Ready, Ends, AfterDrop}
 
 -- ---- the last drop
 
 module _ (w n : ℕ) (l : Limits) (t : Tally) {r : Left} {ws ws′ : List ℕ} {cs cs′ : List Float} where
-  pub swept : lt zero64 (l .epsilon) ≡ true → Leaves w n r ws ws′ cs cs′ (dropSmall (l .epsilon) (stateIn w n t ws cs))
-      → Leaves w n r ws ws′ cs cs′ (lastDrop l (stateIn w n t ws cs))
-  swept e L = subst⁻¹ (λ (b : Bool). Leaves w n r ws ws′ cs cs′ (cond b (dropSmall (l .epsilon) (stateIn w n t ws cs)) (stateIn w n t ws cs))) e L
+  pub swept : lt zero64 (l .epsilon) ≡ true → AfterDrop w n r ws ws′ cs cs′ (dropSmall (l .epsilon) (stateIn w n t ws cs))
+      → AfterDrop w n r ws ws′ cs cs′ (lastDrop l (stateIn w n t ws cs))
+  swept e L = subst⁻¹ (λ (b : Bool). AfterDrop w n r ws ws′ cs cs′ (cond b (dropSmall (l .epsilon) (stateIn w n t ws cs)) (stateIn w n t ws cs))) e L
 
 pub not-swept : (w n : ℕ) (l : Limits) (t : Tally) (ws : List ℕ) (cs : List Float) → lt zero64 (l .epsilon) ≡ false
-    → Leaves w n (record { count = n; tally = t }) ws ws cs cs (lastDrop l (stateIn w n t ws cs))
+    → AfterDrop w n (record { count = n; tally = t }) ws ws cs cs (lastDrop l (stateIn w n t ws cs))
 not-swept w n l t ws cs e =
-    subst⁻¹ (λ (b : Bool). Leaves w n (record { count = n; tally = t }) ws ws cs cs (cond b (dropSmall (l .epsilon) (stateIn w n t ws cs)) (stateIn w n t ws cs))) e
+    subst⁻¹ (λ (b : Bool). AfterDrop w n (record { count = n; tally = t }) ws ws cs cs (cond b (dropSmall (l .epsilon) (stateIn w n t ws cs)) (stateIn w n t ws cs))) e
     (record {
       answer = λ k. record { count = sym (length-tab n (termAt (2 * w) ws cs)) k; tally = t };
       rows = hold-start (2 * w) n n ws cs;
@@ -73,7 +74,7 @@ left-few true o m h = h
 left-few false o m h = zero-le
 
 module _ (w : ℕ) (l : Limits) (n : ℕ) (t : Tally) {left : Left} {ws ws′ : List ℕ} {cs cs′ : List Float} (R : Ready w l n ws cs)
-    (L : Leaves w n left ws ws′ cs cs′ (lastDrop l (stateIn w n t ws cs))) where
+    (L : AfterDrop w n left ws ws′ cs cs′ (lastDrop l (stateIn w n t ws cs))) where
   abbrev s : State
   s = lastDrop l (stateIn w n t ws cs)
 

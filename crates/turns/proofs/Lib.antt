@@ -1,13 +1,11 @@
--- Laws of ops, turns and runs.
-pub mod OpListLaws
+-- Laws of turns and runs in lent memory.
 pub mod ApplyLaws
 pub mod TurnLaws
 pub mod RunLaws
 pub mod EndLaws
 pub mod StartLaws
-pub mod MarkLaws
-pub mod ActLaws
-pub mod FiniteLaws
-pub mod CountedRuns
-pub mod Alike
-pub mod Cone
+pub mod SumCounts
+pub mod FoldLaws
+pub mod MarkRuns
+pub mod SumLaws
+pub mod AllRunLaws

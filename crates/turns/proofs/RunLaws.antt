@@ -21,35 +21,20 @@ use Rattle.terms.proofs.AllLaws.{all-of}
 use Rattle.terms.proofs.ListLaws.{length-tab, getD-tab}
 use Rattle.rows.proofs.ClearLaws.{stepped-cleared}
 use Rattle.rows.proofs.StepLaws.{rows-room, held-room, held-rows, twice-yes, twice-no}
-use Rattle.turns.specs.declared.Limits.{Limits}
-use Rattle.turns.specs.declared.Op.{Op}
+use Rattle.ops.specs.declared.Limits.{Limits}
+use Rattle.ops.specs.declared.Op.{Op}
 use Rattle.turns.specs.declared.Turned.{Turned}
 use Rattle.turns.specs.declared.Turned.the-variants.{Going, Refused}
 use Rattle.turns.specs.declared.Ending.{Ending}
-use Rattle.turns.specs.declared.Ending.the-variants.{Failed}
-use Rattle.turns.specs.declared.Start.{Start}
-use Rattle.turns.specs.Given.{startState, isGiven, isHeld, startedRun}
-use Rattle.turns.specs.Turn.{Stage, refused, going, bind, ask, State, state, Outcome, finish}
-use Rattle.turns.specs.Runs.{step, runs, markedRun}
-use Rattle.turns.specs.Told.{turnedOf, termsOf, stateIn, stageIn, countOf, endingOf, leftBy, endCount, Ready, Slack, Untouched, Tells, Ends, Ran, Followed}
-use Rattle.turns.specs.MarkedOps as D
-use Rattle.turns.proofs.Alike.{holds-imp}
-use Rattle.turns.proofs.CountedRuns.{Counted, runs-counted, run-fits}
+use Rattle.turns.specs.declared.Ending.the-variants.{Done, Failed}
+use Rattle.dynamics.specs.Turn.{Stage, refused, going, bind, ask, UnlessRefused, State, state, Outcome, finish}
+use Rattle.dynamics.specs.Runs.{step, runs, markedRun}
+use Rattle.turns.specs.SumRuns.{Results, toldBy, resultsOf, leftBy, hasRows, Ran}
+use Rattle.turns.specs.Told.{tally, turnedOf, stageTerms, stateIn, stageIn, countOf, endingOf, endCount, Ready, Slack, NothingMet, Tells, Ends}
+use Rattle.dynamics.proofs.Alike.{holds-imp}
+use Rattle.dynamics.proofs.CountedRuns.{Counted, runs-counted, run-fits}
 use Rattle.turns.proofs.TurnLaws.{long}
-
--- ---- stages
-
-pub bind-same : {S R : Type 0} (s : Stage S) (f g : S → Stage R) → ((x : S) → f x ≡ g x) → bind s f ≡ bind s g
-bind-same (refused n) f g e = refl
-bind-same (going x) f g e = e x
-
-pub bind-bind : {S R Q : Type 0} (s : Stage S) (f : S → Stage R) (g : R → Stage Q) → bind (bind s f) g ≡ bind s (λ x. bind (f x) g)
-bind-bind (refused n) f g = refl
-bind-bind (going x) f g = refl
-
-pub bind-going : {S : Type 0} (s : Stage S) → bind s going ≡ s
-bind-going (refused n) = refl
-bind-going (going x) = refl
+use Rattle.dynamics.proofs.StageLaws.{bind-same, bind-bind, bind-going}
 
 -- ---- the ops from index i on
 
@@ -80,7 +65,7 @@ turned-in : (w : ℕ) (at : Turned) (ws : List ℕ) (cs : List Float) → at ≡
 turned-in w (Refused n) ws cs = refl
 turned-in w (Going n t) ws cs = λ k. Going (sym (long w n t ws cs) k) t
 
-count-terms : (w : ℕ) (at : Turned) (ws : List ℕ) (cs : List Float) → termsIn (2 * w) (countOf at) ws cs ≡ termsOf (stageIn w at ws cs)
+count-terms : (w : ℕ) (at : Turned) (ws : List ℕ) (cs : List Float) → termsIn (2 * w) (countOf at) ws cs ≡ stageTerms (stageIn w at ws cs)
 unfolding Rattle.terms.specs.Lists.tab
 count-terms w (Refused n) ws cs = refl
 count-terms w (Going n t) ws cs = refl
@@ -127,12 +112,12 @@ module _ (w : ℕ) (l : Limits) {r : Turned} {ws₀ ws : List ℕ} {cs₀ cs : L
 abbrev Countable : Limits → State → Type 0
 Countable l s = s .touched + l .limit < 2 ^ 64
 
-pub tells-slack : (w : ℕ) (l : Limits) {r : Turned} {ws₀ ws : List ℕ} {cs₀ cs : List Float} (s : Stage State) → Tells w l r ws₀ ws cs₀ cs s → D.Holds (Countable l) s → Slack l r
+pub tells-slack : (w : ℕ) (l : Limits) {r : Turned} {ws₀ ws : List ℕ} {cs₀ cs : List Float} (s : Stage State) → Tells w l r ws₀ ws cs₀ cs s → UnlessRefused (Countable l) s → Slack l r
 tells-slack w l (refused n) T h = subst⁻¹ (Slack l) (T .answer) tt
 tells-slack w l (going s) T h = subst⁻¹ (Slack l) (T .answer) h
 
-pub countable : (w : ℕ) (l : Limits) (ms : List Bool) (ops : List Op) (at : Turned) (ws : List ℕ) (cs : List Float) → Ready w l (countOf at) ws cs → Untouched at
-    → l .limit ≤ 1048576 → length ops ≤ 4096 → (i : ℕ) → D.Holds (Countable l) (bind (stageIn w at ws cs) (runs w l (drop i ms) (drop i ops)))
+pub countable : (w : ℕ) (l : Limits) (ms : List Bool) (ops : List Op) (at : Turned) (ws : List ℕ) (cs : List Float) → Ready w l (countOf at) ws cs → NothingMet at
+    → l .limit ≤ 1048576 → length ops ≤ 4096 → (i : ℕ) → UnlessRefused (Countable l) (bind (stageIn w at ws cs) (runs w l (drop i ms) (drop i ops)))
 countable w l ms ops (Refused n) ws cs ready none low short i = tt
 countable w l ms ops (Going n t) ws cs ready none low short i =
     let back = drop i ops in
@@ -188,27 +173,50 @@ ended-count (going o) = refl
 pub rows-for : (w limit : ℕ) (ws : List ℕ) (cs : List Float) {r : ℕ} → r ≡ rowsIn w ws cs → limit ≤ r / 2 → 2 * limit ≤ rowsIn w ws cs
 rows-for w limit ws cs e h = leb-true (2 * limit) (rowsIn w ws cs) (twice-yes w limit ws cs e h)
 
-module _ (w : ℕ) (l : Limits) (start : Start) (keys : List ℕ) (weights : List Float) (ms : List Bool) (ops : List Op) (ws : List ℕ) (cs : List Float) (ix : List ℕ) where
+-- ---- what a public run is refused with before it starts, and what it leaves
+
+-- the answer of a run, by its number and its values
+told-ending : (run : Stage Outcome) → toldBy (endingOf run) ≡ resultsOf run
+told-ending (refused n) = refl
+told-ending (going o) = refl
+
+pub told-of : (run : Stage Outcome) {end : Ending} → end ≡ endingOf run → toldBy end ≡ resultsOf run
+told-of run e = ap toldBy e ∙ told-ending run
+
+-- the answer that a number or values tell
+abbrev toldEnd : Stage Results → Ending
+toldEnd (refused n) = Failed n
+toldEnd (going x) = Done (x .mean) (x .count) (tally (x .peak) (x .discarded) (x .touched))
+
+told-end : (end : Ending) → toldEnd (toldBy end) ≡ end
+told-end (Failed n) = refl
+told-end (Done m n t) = refl
+
+told-run : (run : Stage Outcome) → toldEnd (resultsOf run) ≡ endingOf run
+told-run (refused n) = refl
+told-run (going o) = refl
+
+pub ending-of : (run : Stage Outcome) {end : Ending} → toldBy end ≡ resultsOf run → end ≡ endingOf run
+ending-of run {end} e = sym (told-end end) ∙ ap toldEnd e ∙ told-run run
+
+module _ (w : ℕ) (fits : Bool) (l : Limits) (run : Stage Outcome) (ws : List ℕ) (cs : List Float) (ix : List ℕ) where
   abbrev rows : ℕ
   rows = rowsIn w ws cs
 
   abbrev Told : Bool → Bool → Ending → List ℕ → List Float → List ℕ → Type 0
-  Told g h r ws′ cs′ ix′ = Ran w (g && h) (ask 2 g (ask 7 h (markedRun w l ms ops (startState w keys weights start)))) r ws ws′ cs cs′ ix ix′
+  Told g h r ws′ cs′ ix′ = Ran w (g && h) (ask 2 g (ask 7 h run)) r ws ws′ cs cs′ ix ix′
 
-  pub ran-2 : isGiven w (l .limit) keys weights start ≡ false → Ran w (isHeld w l keys weights start rows) (startedRun w l keys weights start ms ops rows) (Failed 2) ws ws cs cs ix ix
-  ran-2 g = subst⁻¹ (λ (b : Bool). Told b (leb (2 * l .limit) rows) (Failed 2) ws cs ix) g (record { answer = refl; words = refl; coeffs = refl; index = refl; rows = λ e. absurd (false≢true e) })
+  pub ran-2 : fits ≡ false → Told fits (hasRows l rows) (Failed 2) ws cs ix
+  ran-2 g = subst⁻¹ (λ (b : Bool). Told b (hasRows l rows) (Failed 2) ws cs ix) g (record { answer = refl; words = refl; coeffs = refl; index = refl; rows = λ e. absurd (false≢true e) })
 
-  pub ran-7 : {r : ℕ} → isGiven w (l .limit) keys weights start ≡ true → r ≡ rows → r / 2 < l .limit
-      → Ran w (isHeld w l keys weights start rows) (startedRun w l keys weights start ms ops rows) (Failed 7) ws ws cs cs ix ix
-  ran-7 g e h = subst⁻¹ (λ (b : Bool). Told b (leb (2 * l .limit) rows) (Failed 7) ws cs ix) g
+  pub ran-7 : {r : ℕ} → fits ≡ true → r ≡ rows → r / 2 < l .limit → Told fits (hasRows l rows) (Failed 7) ws cs ix
+  ran-7 g e h = subst⁻¹ (λ (b : Bool). Told b (hasRows l rows) (Failed 7) ws cs ix) g
       (subst⁻¹ (λ (b : Bool). Told true b (Failed 7) ws cs ix) (twice-no w (l .limit) ws cs e h) (record { answer = refl; words = refl; coeffs = refl; index = refl; rows = λ e. absurd (false≢true e) }))
 
-  pub ran-on : {r : ℕ} {end : Ending} {left : ℕ} {ws′ ws″ : List ℕ} {cs′ cs″ : List Float} {ix′ : List ℕ} → isGiven w (l .limit) keys weights start ≡ true → r ≡ rows → l .limit ≤ r / 2
-      → Ends w l end ws ws′ cs cs′ (markedRun w l ms ops (startState w keys weights start)) → left ≡ endCount end → Cleared w left r ws′ ws″ cs′ cs″
-      → ix′ ≡ replicate (length ix) 0
-      → Ran w (isHeld w l keys weights start rows) (startedRun w l keys weights start ms ops rows) end ws ws″ cs cs″ ix ix′
+  pub ran-on : {r : ℕ} {end : Ending} {left : ℕ} {ws′ ws″ : List ℕ} {cs′ cs″ : List Float} {ix′ : List ℕ} → fits ≡ true → r ≡ rows → l .limit ≤ r / 2
+      → Ends w l end ws ws′ cs cs′ run → left ≡ endCount end → Cleared w left r ws′ ws″ cs′ cs″ → ix′ ≡ replicate (length ix) 0
+      → Told fits (hasRows l rows) end ws″ cs″ ix′
   ran-on {r} {end} {left} {ws′} {ws″} {cs′} {cs″} {ix′} g e h E n C zeros =
-      let run : Stage Outcome = markedRun w l ms ops (startState w keys weights start) in
       let yes = twice-yes w (l .limit) ws cs e h in
       let room : 2 * l .limit ≤ rows = leb-true (2 * l .limit) rows yes in
       let wide : Holds (2 * w) rows (length (leftBy run)) (leftBy run) ws ws′ cs cs′ = hold-wide room (E .rows) in
@@ -216,42 +224,13 @@ module _ (w : ℕ) (l : Limits) (start : Start) (keys : List ℕ) (weights : Lis
       let cleared : Cleared w (length (leftBy run)) rows ws′ ws″ cs′ cs″ = subst (λ (k : ℕ). Cleared w k rows ws′ ws″ cs′ cs″) some (subst (λ (k : ℕ). Cleared w left k ws′ ws″ cs′ cs″) e C) in
       let S : Stepped w rows rows 0 (leftBy run) (length (leftBy run)) ws ws″ cs cs″ = stepped-cleared w rows wide 0 (let f = E .few in omega (arith, f, room)) (le-refl rows) cleared in
       let full : leb rows rows ≡ true = le-leb rows rows (le-refl rows) in
-      subst⁻¹ (λ (b : Bool). Told b (leb (2 * l .limit) rows) end ws″ cs″ ix′) g
+      subst⁻¹ (λ (b : Bool). Told b (hasRows l rows) end ws″ cs″ ix′) g
       (subst⁻¹ (λ (b : Bool). Told true b end ws″ cs″ ix′) yes
       (record {
-        answer = E .answer;
+        answer = told-of run (E .answer);
         words = S .words ∙ ap (λ (b : Bool). cond b (wordsWith w rows (leftBy run) ws) ws) full;
         coeffs = S .coeffs ∙ ap (λ (b : Bool). cond b (coeffsWith rows (leftBy run) cs) cs) full;
         index = zeros;
         rows = λ e. step-holds w rows rows 0 S full (le-refl rows) (let f = E .few in omega (arith, f, room))
             (subst (All (Keyed (2 * w))) (E .rows .terms) (keyed-in w (length (leftBy run)) ws′ cs′ (room-less (let f = E .few in omega (arith, f, room)) (held-room (E .rows) (rows-room w rows ws cs (le-refl rows))))));
       }))
-
--- ---- a run that another follows
-
-module _ (w : ℕ) (l : Limits) (start : Start) (keys : List ℕ) (weights : List Float) (ms : List Bool) (ops : List Op) (ws : List ℕ) (cs : List Float) (ix : List ℕ) where
-  abbrev room : ℕ
-  room = rowsIn w ws cs
-
-  abbrev Leads : Bool → Bool → Ending → List ℕ → List Float → List ℕ → Type 0
-  Leads g h r ws′ cs′ ix′ = Followed w (g && h) (ask 2 g (ask 7 h (markedRun w l ms ops (startState w keys weights start)))) r ws ws′ cs cs′ ix ix′
-
-  abbrev nothing : false ≡ false → (ws ≡ ws) × ((cs ≡ cs) × (ix ≡ ix))
-  nothing e = (refl, (refl, refl))
-
-  pub followed-2 : isGiven w (l .limit) keys weights start ≡ false → Followed w (isHeld w l keys weights start room) (startedRun w l keys weights start ms ops room) (Failed 2) ws ws cs cs ix ix
-  followed-2 g = subst⁻¹ (λ (b : Bool). Leads b (leb (2 * l .limit) room) (Failed 2) ws cs ix) g (record { answer = refl; rows = λ e. absurd (false≢true e); untouched = nothing })
-
-  pub followed-7 : {r : ℕ} → isGiven w (l .limit) keys weights start ≡ true → r ≡ room → r / 2 < l .limit
-      → Followed w (isHeld w l keys weights start room) (startedRun w l keys weights start ms ops room) (Failed 7) ws ws cs cs ix ix
-  followed-7 g e h = subst⁻¹ (λ (b : Bool). Leads b (leb (2 * l .limit) room) (Failed 7) ws cs ix) g
-      (subst⁻¹ (λ (b : Bool). Leads true b (Failed 7) ws cs ix) (twice-no w (l .limit) ws cs e h) (record { answer = refl; rows = λ e. absurd (false≢true e); untouched = nothing }))
-
-  pub followed-on : {r : ℕ} {end : Ending} {ws′ : List ℕ} {cs′ : List Float} {ix′ : List ℕ} → isGiven w (l .limit) keys weights start ≡ true → r ≡ room → l .limit ≤ r / 2
-      → Ends w l end ws ws′ cs cs′ (markedRun w l ms ops (startState w keys weights start))
-      → Followed w (isHeld w l keys weights start room) (startedRun w l keys weights start ms ops room) end ws ws′ cs cs′ ix ix′
-  followed-on {r} {end} {ws′} {cs′} {ix′} g e h E =
-      let yes = twice-yes w (l .limit) ws cs e h in
-      subst⁻¹ (λ (b : Bool). Leads b (leb (2 * l .limit) room) end ws′ cs′ ix′) g
-      (subst⁻¹ (λ (b : Bool). Leads true b end ws′ cs′ ix′) yes
-      (record { answer = E .answer; rows = λ e. hold-wide (leb-true (2 * l .limit) room yes) (E .rows); untouched = λ e. absurd (false≢true (sym e)) }))

@@ -1,4 +1,4 @@
--- What a run starts from: the tests of it, the word of Z at one qubit, and the rows at the start. Assumes nothing.
+-- What a run starts from: the word of Z at one qubit, and the rows at the start. Assumes nothing.
 use mathlib.Core.Path.{_≡_, refl, sym, ap, _∙_, subst, subst⁻¹}
 use mathlib.Core.Bool.{Bool, true, false, cond, _&&_}
 use mathlib.Core.List.{List, [], _∷_}
@@ -22,37 +22,23 @@ use Rattle.terms.proofs.AllLaws.{all-at, all-of, all-imp}
 use Rattle.terms.proofs.CountLaws.{merged-count}
 use Rattle.terms.proofs.DistinctLaws.{merged-distinct, merged-width}
 use Rattle.terms.proofs.ListLaws.{length-tab, getD-tab}
-use Rattle.rows.specs.Rows.{keyAt, termAt, termsIn, rowsIn, wordsWith, coeffsWith, Room, Stepped, Holds}
+use Rattle.words.specs.Rows.{keyAt}
+use Rattle.rows.specs.Rows.{termAt, termsIn, rowsIn, wordsWith, coeffsWith, Room, Stepped, Holds}
 use Rattle.rows.proofs.RowLaws.{length-key}
 use Rattle.rows.proofs.HoldLaws.{hold-wide}
 use Rattle.rows.proofs.ReadLaws.{Keyed, step-holds}
 use Rattle.branches.specs.Started.{Started, linesOf}
 use Rattle.branches.proofs.RotatedLaws.{terms-width}
-use Rattle.turns.specs.declared.Limits.{Limits}
+use Rattle.ops.specs.declared.Limits.{Limits}
 use Rattle.turns.specs.declared.Tally.{Tally}
 use Rattle.turns.specs.declared.Turned.{Turned}
 use Rattle.turns.specs.declared.Turned.the-variants.{Going}
 use Rattle.turns.specs.declared.Start.{Start}
 use Rattle.turns.specs.declared.Start.the-variants.{Lines, Alone, Z}
-use Rattle.turns.specs.Ops.{onWords}
-use Rattle.turns.specs.Turn.{going, state}
-use Rattle.turns.specs.Told.{tally, countOf, Untouched, Tells}
-use Rattle.turns.specs.Given.{zKey, startState, isThere, isGiven}
-
--- ---- the tests
-
-module _ (w limit : ℕ) (keys : List ℕ) (weights : List Float) (start : Start) where
-  pub given-lines : (k : ℕ) {n : ℕ} {a r : Bool} → start ≡ Lines k → n ≡ length keys / (2 * w) → a ≡ leb k n && leb k (length weights) → r ≡ leb k limit && a
-      → r ≡ isThere w limit keys weights start
-  given-lines k e en ea er = er ∙ (λ i. leb k limit && (ea ∙ (λ j. leb k (en j) && leb k (length weights))) i) ∙ ap (isThere w limit keys weights) (sym e)
-
-  pub given-alone : (k : ℕ) {n : ℕ} {r : Bool} → start ≡ Alone k → n ≡ length keys / (2 * w) → r ≡ leb 1 limit && ltb k n → r ≡ isThere w limit keys weights start
-  given-alone k e en er = er ∙ (λ i. leb 1 limit && ltb k (en i)) ∙ ap (isThere w limit keys weights) (sym e)
-
-  pub given-z : (q : ℕ) (t : Tally) {a b r : Bool} → start ≡ Z q t → b ≡ onWords w (q ∷ []) → a ≡ leb w 4 && b → r ≡ leb 1 limit && a
-      → r ≡ isThere w limit keys weights start
-  unfolding onWords
-  given-z q t e eb ea er = er ∙ (λ i. leb 1 limit && (ea ∙ (λ j. leb w 4 && eb j)) i) ∙ ap (isThere w limit keys weights) (sym e)
+use Rattle.dynamics.specs.Turn.{going, state}
+use Rattle.turns.specs.Told.{tally, countOf, NothingMet, Tells}
+use Rattle.dynamics.specs.Outcome.{zKey}
+use Rattle.turns.specs.Given.{startState, isThere, isGiven}
 
 -- ---- Z at one qubit
 
@@ -219,5 +205,5 @@ none-met w keys weights (Alone i) = refl
 none-met w keys weights (Z q t) = refl
 
 pub start-untouched : (w : ℕ) (l : Limits) (keys : List ℕ) (weights : List Float) (start : Start) {at : Turned} {ws₀ ws : List ℕ} {cs₀ cs : List Float}
-    → Tells w l at ws₀ ws cs₀ cs (going (startState w keys weights start)) → Untouched at
-start-untouched w l keys weights start T = subst⁻¹ Untouched (T .answer) (none-met w keys weights start)
+    → Tells w l at ws₀ ws cs₀ cs (going (startState w keys weights start)) → NothingMet at
+start-untouched w l keys weights start T = subst⁻¹ NothingMet (T .answer) (none-met w keys weights start)

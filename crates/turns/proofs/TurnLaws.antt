@@ -26,18 +26,19 @@ use Rattle.sums.specs.declared.Kept.{Kept}
 use Rattle.sums.specs.Steps.{Truncated}
 use Rattle.sums.proofs.MeanLaws.{finite-terms}
 use Rattle.branches.proofs.RotatedLaws.{terms-width}
-use Rattle.turns.specs.declared.Limits.{Limits}
-use Rattle.turns.specs.declared.Op.{Op}
+use Rattle.ops.specs.declared.Limits.{Limits}
+use Rattle.ops.specs.declared.Op.{Op}
 use Rattle.turns.specs.declared.Tally.{Tally}
 use Rattle.turns.specs.declared.turn.Left.{Left}
 use Rattle.turns.specs.declared.Turned.{Turned}
 use Rattle.turns.specs.declared.Turned.the-variants.{Going, Refused}
-use Rattle.turns.specs.Ops.{act, met}
-use Rattle.turns.specs.Turn.{Stage, refused, going, bind, ask, State, state, fine, dropSmall, truncated, counted, checked, settle}
-use Rattle.turns.specs.Runs.{turn, step}
-use Rattle.turns.specs.Told.{tally, turnedOf, termsOf, stateIn, stageIn, countOf, fineIn, withinOf, CheckedIn, Leaves, Ready, Slack, Tells}
-use Rattle.turns.proofs.ActLaws.{met-few}
-use Rattle.turns.proofs.ApplyLaws.{act-distinct, act-count, here-width}
+use Rattle.dynamics.specs.Acts.{act, met}
+use Rattle.dynamics.specs.Turn.{Stage, refused, going, bind, ask, State, state, fine, dropSmall, truncated, counted, checked, settle}
+use Rattle.dynamics.specs.Runs.{turn, step}
+use Rattle.turns.specs.Told.{tally, turnedOf, stageTerms, stateIn, stageIn, countOf, fineIn, withinOf, CheckedIn, AfterDrop, Ready, Slack, Tells}
+use Rattle.dynamics.proofs.ActLaws.{met-few}
+use Rattle.dynamics.proofs.KeptLaws.{act-distinct, act-count}
+use Rattle.turns.proofs.ApplyLaws.{here-width}
 
 -- ---- question 8
 
@@ -53,11 +54,11 @@ module _ (w n : ℕ) (t : Tally) (ws : List ℕ) (cs : List Float) where
   pub long : length here ≡ n
   long = length-tab n (termAt (2 * w) ws cs)
 
-  pub left-same : Leaves w n (record { count = n; tally = t }) ws ws cs cs (stateIn w n t ws cs)
+  pub left-same : AfterDrop w n (record { count = n; tally = t }) ws ws cs cs (stateIn w n t ws cs)
   left-same = record { answer = λ k. record { count = sym long k; tally = t }; rows = hold-start (2 * w) n n ws cs }
 
   pub dropped : (e : Float) {r : Kept} {ws′ : List ℕ} {cs′ : List Float} → n ≤ rowsIn w ws cs → Words ws → Truncated w n e r ws ws′ cs cs′
-      → Leaves w n (record { count = r .count; tally = tally (t .peak) (add binary64 (t .discarded) (r .dropped)) (t .touched) }) ws ws′ cs cs′ (dropSmall e (stateIn w n t ws cs))
+      → AfterDrop w n (record { count = r .count; tally = tally (t .peak) (add binary64 (t .discarded) (r .dropped)) (t .touched) }) ws ws′ cs cs′ (dropSmall e (stateIn w n t ws cs))
   dropped e {r} {ws′} {cs′} room ok D =
       let yes = le-leb n (rowsIn w ws cs) room in
       let count : length (keptOf e here) ≤ n = let k = kept-count e here in omega (arith, long, k) in
@@ -74,12 +75,12 @@ module _ (l : Limits) (w n : ℕ) (t : Tally) (ws : List ℕ) (cs : List Float) 
   crowd : {b : Bool} → b ≡ (ltb 0 (l .«max_terms») && ltb (l .«max_terms») n) → b ≡ crowded (l .«max_terms») (termsIn (2 * w) n ws cs)
   crowd e = e ∙ ap (λ (m : ℕ). ltb 0 (l .«max_terms») && ltb (l .«max_terms») m) (sym (long w n t ws cs))
 
-  pub enforced : {b : Bool} {r : Left} {ws′ : List ℕ} {cs′ : List Float} → b ≡ (ltb 0 (l .«max_terms») && ltb (l .«max_terms») n) → b ≡ true → Leaves w n r ws ws′ cs cs′ (dropSmall (l .epsilon) (stateIn w n t ws cs))
-      → Leaves w n r ws ws′ cs cs′ (truncated l (stateIn w n t ws cs))
-  enforced {b} {r} {ws′} {cs′} e y L = subst (λ (b : Bool). Leaves w n r ws ws′ cs cs′ (cond b (dropSmall (l .epsilon) (stateIn w n t ws cs)) (stateIn w n t ws cs))) (sym y ∙ crowd e) L
+  pub enforced : {b : Bool} {r : Left} {ws′ : List ℕ} {cs′ : List Float} → b ≡ (ltb 0 (l .«max_terms») && ltb (l .«max_terms») n) → b ≡ true → AfterDrop w n r ws ws′ cs cs′ (dropSmall (l .epsilon) (stateIn w n t ws cs))
+      → AfterDrop w n r ws ws′ cs cs′ (truncated l (stateIn w n t ws cs))
+  enforced {b} {r} {ws′} {cs′} e y L = subst (λ (b : Bool). AfterDrop w n r ws ws′ cs cs′ (cond b (dropSmall (l .epsilon) (stateIn w n t ws cs)) (stateIn w n t ws cs))) (sym y ∙ crowd e) L
 
-  pub not-enforced : {b : Bool} {r : Left} {ws′ : List ℕ} {cs′ : List Float} → b ≡ (ltb 0 (l .«max_terms») && ltb (l .«max_terms») n) → b ≡ false → Leaves w n r ws ws′ cs cs′ (stateIn w n t ws cs) → Leaves w n r ws ws′ cs cs′ (truncated l (stateIn w n t ws cs))
-  not-enforced {b} {r} {ws′} {cs′} e y L = subst (λ (b : Bool). Leaves w n r ws ws′ cs cs′ (cond b (dropSmall (l .epsilon) (stateIn w n t ws cs)) (stateIn w n t ws cs))) (sym y ∙ crowd e) L
+  pub not-enforced : {b : Bool} {r : Left} {ws′ : List ℕ} {cs′ : List Float} → b ≡ (ltb 0 (l .«max_terms») && ltb (l .«max_terms») n) → b ≡ false → AfterDrop w n r ws ws′ cs cs′ (stateIn w n t ws cs) → AfterDrop w n r ws ws′ cs cs′ (truncated l (stateIn w n t ws cs))
+  not-enforced {b} {r} {ws′} {cs′} e y L = subst (λ (b : Bool). AfterDrop w n r ws ws′ cs cs′ (cond b (dropSmall (l .epsilon) (stateIn w n t ws cs)) (stateIn w n t ws cs))) (sym y ∙ crowd e) L
 
 -- ---- questions 8 and 9
 
@@ -117,22 +118,22 @@ within-on l n t {u} h m =
 -- ---- what follows an op
 
 -- what holds of no terms, and of the terms of s if they are at most limit, holds of the terms that questions 8 and 9 leave
-checked-terms : (l : Limits) (s : State) (P : List Term → Type 0) → P [] → (length (s .terms) ≤ l .limit → P (s .terms)) → P (termsOf (checked l s))
+checked-terms : (l : Limits) (s : State) (P : List Term → Type 0) → P [] → (length (s .terms) ≤ l .limit → P (s .terms)) → P (stageTerms (checked l s))
 unfolding checked
 checked-terms l s P none all = go (fine s)
   where
-    few : (b : Bool) → leb (length (s .terms)) (l .limit) ≡ b → P (termsOf (ask 9 b (going (counted s))))
+    few : (b : Bool) → leb (length (s .terms)) (l .limit) ≡ b → P (stageTerms (ask 9 b (going (counted s))))
     few true e = all (leb-true _ _ e)
     few false e = none
 
-    go : (b : Bool) → P (termsOf (ask 8 b (ask 9 (leb (length (s .terms)) (l .limit)) (going (counted s)))))
+    go : (b : Bool) → P (stageTerms (ask 8 b (ask 9 (leb (length (s .terms)) (l .limit)) (going (counted s)))))
     go true = few _ refl
     go false = none
 
 pub none-distinct : Distinct []
 none-distinct = distinct-of [] tt
 
-turned-count : (s : Stage State) → countOf (turnedOf s) ≡ length (termsOf s)
+turned-count : (s : Stage State) → countOf (turnedOf s) ≡ length (stageTerms s)
 turned-count (refused n) = refl
 turned-count (going s) = refl
 
@@ -147,7 +148,7 @@ module _ (l : Limits) (w : ℕ) (s : State) {r : Turned} {ws₀ ws : List ℕ} {
       → Tells w l r ws₀ ws cs₀ cs (checked l s)
   tells-checked e H d = record {
     answer = e;
-    rows = subst⁻¹ (λ (m : ℕ). Holds (2 * w) (2 * l .limit) m (termsOf (checked l s)) ws₀ ws cs₀ cs) (ap countOf e ∙ turned-count (checked l s))
+    rows = subst⁻¹ (λ (m : ℕ). Holds (2 * w) (2 * l .limit) m (stageTerms (checked l s)) ws₀ ws cs₀ cs) (ap countOf e ∙ turned-count (checked l s))
         (checked-terms l s (λ ts. Holds (2 * w) (2 * l .limit) (length ts) ts ws₀ ws cs₀ cs) (emptied H) (λ h. H));
     few = checked-terms l s (λ ts. length ts ≤ l .limit) zero-le (λ h. h);
     sound = checked-terms l s Distinct none-distinct (λ h. d);
@@ -175,7 +176,7 @@ module _ (l : Limits) (w n : ℕ) (t : Tally) (ws : List ℕ) (cs : List Float) 
       (tells-refused l w (stateIn w n t ws cs) 8 refl refl (emptied (hold-start (2 * w) (2 * l .limit) n ws cs)))
 
   pub settled : {b : Bool} {left : Left} {r : Turned} {ws′ : List ℕ} {cs′ : List Float} → b ≡ fineIn n t cs → b ≡ true → n ≤ 2 * l .limit → Distinct (termsIn (2 * w) n ws cs)
-      → Leaves w n left ws ws′ cs cs′ (truncated l (stateIn w n t ws cs)) → CheckedIn l (left .count) (left .tally) cs′ r → Tells w l r ws ws′ cs cs′ (settle l (stateIn w n t ws cs))
+      → AfterDrop w n left ws ws′ cs cs′ (truncated l (stateIn w n t ws cs)) → CheckedIn l (left .count) (left .tally) cs′ r → Tells w l r ws ws′ cs cs′ (settle l (stateIn w n t ws cs))
   unfolding settle
   settled {b} {left} {r} {ws′} {cs′} q e few d L C =
       let s₁ : State = truncated l (stateIn w n t ws cs) in

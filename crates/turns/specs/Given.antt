@@ -1,4 +1,4 @@
--- What a run starts from, and what is asked of it before it starts.
+-- What a run starts from, as the private contracts of its steps have it.
 use Prim.Native.Nat.{ℕ, _*_, _/_}
 use mathlib.Core.Bool.{Bool, _&&_}
 use mathlib.Core.List.{List, [], _∷_}
@@ -6,20 +6,14 @@ use lib.Dec.{leb, ltb}
 use lib.ListN.{length}
 use lib.Ieee.{Float}
 use Rattle.numbers.specs.Constants.{one64}
-use Rattle.words.specs.Keys.{Key, flipAt, zAt, noLetters}
 use Rattle.terms.specs.Start.{termOf, merged}
-use Rattle.rows.specs.Rows.{keyAt}
+use Rattle.words.specs.Rows.{keyAt}
 use Rattle.branches.specs.Started.{linesOf}
-use Rattle.turns.specs.declared.Limits.{Limits}
-use Rattle.turns.specs.declared.Op.{Op}
 use Rattle.turns.specs.declared.Start.{Start}
 use Rattle.turns.specs.declared.Start.the-variants.{Lines, Alone, Z}
-use Rattle.turns.specs.Turn.{Stage, ask, State, state, Outcome}
-use Rattle.turns.specs.Runs.{begin, markedRun}
-
--- Z at one qubit
-abbrev pub zKey : ℕ → ℕ → Key
-zKey w q = flipAt (noLetters w) (zAt w q)
+use Rattle.dynamics.specs.Outcome.{zKey}
+use Rattle.dynamics.specs.Turn.{State, state}
+use Rattle.dynamics.specs.Runs.{begin}
 
 -- the terms, and the tally, that a run starts from; no op has met a term yet
 abbrev pub startState : ℕ → List ℕ → List Float → Start → State
@@ -33,15 +27,6 @@ isThere w limit keys weights (Lines k) = leb k limit && (leb k (length keys / (2
 isThere w limit keys weights (Alone i) = leb 1 limit && ltb i (length keys / (2 * w))
 isThere w limit keys weights (Z q t) = leb 1 limit && (leb w 4 && ltb q (64 * w))
 
--- 2. "Are .. limit .. to 1,048,576 ..?": then what 4,096 ops meet is counted in 64 bits
+-- and limit is at most 1,048,576: then what 4,096 ops meet is counted in 64 bits
 abbrev pub isGiven : ℕ → ℕ → List ℕ → List Float → Start → Bool
 isGiven w limit keys weights start = leb limit 1048576 && isThere w limit keys weights start
-
--- what it starts from is given, and 7. "Are there at least 2 × limit rows ..?": then the run begins
-abbrev pub isHeld : ℕ → Limits → List ℕ → List Float → Start → ℕ → Bool
-isHeld w l keys weights start rows = isGiven w (l .limit) keys weights start && leb (2 * l .limit) rows
-
--- the run that a public run is equal to: question 2 of what it starts from, question 7 of the rows, then the ops that the marks set
-abbrev pub startedRun : ℕ → Limits → List ℕ → List Float → Start → List Bool → List Op → ℕ → Stage Outcome
-startedRun w l keys weights start ms ops rows =
-    ask 2 (isGiven w (l .limit) keys weights start) (ask 7 (leb (2 * l .limit) rows) (markedRun w l ms ops (startState w keys weights start)))

@@ -1,8 +1,6 @@
-pub mod Ops
-pub mod OpList
-pub mod Turn
-pub mod Runs
+pub mod SumRuns
+pub mod AllRuns
 pub mod Given
 pub mod Told
-pub mod Marks
-pub mod MarkedOps
+pub mod Folding
+pub mod Means

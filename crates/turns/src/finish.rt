@@ -4,14 +4,14 @@ ghost use mathlib.Core.Bool.{cond, _&&_};
 ghost use Prim.Native.Nat.{_≤_};
 ghost use Rattle.numbers.specs.Tests.{isFinite};
 ghost use Rattle.rows.specs.Rows.{rowsIn};
-ghost use Rattle.turns.specs.Turn.{bind, lastDrop, finish};
-ghost use Rattle.turns.specs.Told.{stateIn, stageIn, countOf, Leaves, Ready, Ends};
+ghost use Rattle.dynamics.specs.Turn.{bind, lastDrop, finish};
+ghost use Rattle.turns.specs.Told.{stateIn, stageIn, countOf, AfterDrop, Ready, Ends};
 use crate::Ending;
-use crate::Limits;
 use crate::Tally;
 use crate::Turned;
 use crate::turn;
 use crate::turn::Left;
+use ops::Limits;
 
 // The last drop, if epsilon is above 0.
 fn final_sweep(
@@ -23,7 +23,7 @@ fn final_sweep(
     tally: Tally,
 ) -> Left
     requires { ⌜ n ≤ rowsIn w (now words) (now coeffs) ⌝ }
-    ensures { λ r. ⌜ Leaves w n r (now (words .entry)) (now (words .exit)) (now (coeffs .entry)) (now (coeffs .exit)) (lastDrop limits (stateIn w n tally (now (words .entry)) (now (coeffs .entry)))) ⌝ }
+    ensures { λ r. ⌜ AfterDrop w n r (now (words .entry)) (now (words .exit)) (now (coeffs .entry)) (now (coeffs .exit)) (lastDrop limits (stateIn w n tally (now (words .entry)) (now (coeffs .entry)))) ⌝ }
 {
     let e = limits.epsilon;
     if 0.0 < e {

@@ -1,30 +1,4 @@
-// Ops, one turn of a run, and a run over the ops that marks set.
-
-use words::Gate;
-
-// An op of a sheet. A native gate with one target has 0 for the second; rotations have their sine and cosine, channels their rates.
-pub enum Op {
-    Native(Gate, usize, usize),
-    T(usize),
-    Tdg(usize),
-    Rz(usize, f64, f64),
-    P(usize, f64, f64),
-    Rzz(usize, usize, f64, f64),
-    Pauli(usize, f64, f64, f64),
-    Depol(usize, f64),
-    Damp(usize, f64),
-    Phase(usize, f64),
-    Thermal(usize, f64, f64, f64),
-    Depol2(usize, usize, f64),
-    Barrier,
-}
-
-// The sheet's epsilon, max_terms and limit.
-pub struct Limits {
-    pub epsilon: f64,
-    pub max_terms: usize,
-    pub limit: usize,
-}
+// One turn of a run, a run of a sum under any marks with its fold, and the runs of all qubits.
 
 // The greatest number of terms so far, the discarded weight, and how many terms the ops met, summed.
 pub struct Tally {
@@ -53,12 +27,12 @@ pub enum Start {
     Z(usize, Tally),
 }
 
+pub mod all;
 mod apply;
 mod finish;
-pub mod marks;
-pub mod oplist;
+mod fold;
 pub mod peaks;
-pub mod run;
+mod run;
 mod starts;
-mod targets;
+pub mod sum;
 mod turn;

@@ -1,6 +1,6 @@
-// What a run starts from: whether it is there, and its terms in the rows.
+// What a run starts from: its terms in the rows.
 ghost use mathlib.Core.Path.{_≡_};
-ghost use mathlib.Core.Bool.{true, _&&_};
+ghost use mathlib.Core.Bool.{true};
 ghost use mathlib.Core.List.{[], _∷_};
 ghost use Prim.Native.Nat.{_*_, _≤_, _<_};
 ghost use lib.Dec.{leb};
@@ -8,49 +8,14 @@ ghost use Rattle.numbers.specs.Constants.{zero64, one64};
 ghost use Rattle.terms.specs.Start.{termOf};
 ghost use Rattle.rows.specs.Rows.{rowsIn};
 ghost use Rattle.branches.specs.Started.{Started};
-ghost use Rattle.turns.specs.Turn.{going};
+ghost use Rattle.dynamics.specs.Turn.{going};
 ghost use Rattle.turns.specs.Told.{tally, Tells};
-ghost use Rattle.turns.specs.Given.{zKey, startState, isThere, isGiven};
-use crate::Limits;
+ghost use Rattle.dynamics.specs.Outcome.{zKey};
+ghost use Rattle.turns.specs.Given.{startState, isThere, isGiven};
 use crate::Start;
 use crate::Tally;
 use crate::Turned;
-use crate::targets;
-
-fn both(a: bool, b: bool) -> bool
-    ensures { λ r. ⌜ r ≡ a && b ⌝ }
-{
-    if a { b } else { false }
-}
-
-// Whether the table has the lines, or the words the qubit, and the limit is not below the number of terms.
-fn is_there(start: Start, limits: Limits, w: usize, keys: &[u64], weights: &[f64]) -> bool
-    ensures { λ r. ⌜ r ≡ isThere w (limits .limit) (now (keys .entry)) (now (weights .entry)) start ⌝ }
-{
-    let limit = limits.limit;
-    let lines = words::rows::rows_of(keys.len(), w);
-    match start {
-        Start::Lines(k) => both(k <= limit, both(k <= lines, k <= weights.len())),
-        Start::Alone(i) => both(1 <= limit, i < lines),
-        Start::Z(q, _) => both(1 <= limit, both(w <= 4, targets::has_qubit(w, q))),
-    }
-}
-
-// The same, and the limit is one that a sheet may have.
-pub(crate) fn is_given(
-    start: Start,
-    limits: Limits,
-    w: usize,
-    keys: &[u64],
-    weights: &[f64],
-) -> bool
-    ensures { λ r. ⌜ r ≡ isGiven w (limits .limit) (now (keys .entry)) (now (weights .entry)) start ⌝ }
-{
-    both(
-        limits.limit <= 1048576,
-        is_there(start, limits, w, keys, weights),
-    )
-}
+use ops::Limits;
 
 // The tally of an earlier run, for a run whose ops have met nothing yet.
 fn untouched(t: Tally) -> Tally

@@ -5,15 +5,15 @@ ghost use Prim.Native.Nat.{_+_, _*_, _^_, _≤_, _<_};
 ghost use lib.Dec.{ltb};
 ghost use Rattle.terms.specs.Term.{Distinct};
 ghost use Rattle.rows.specs.Rows.{termsIn, rowsIn};
-ghost use Rattle.turns.specs.Turn.{bind, dropSmall, settle};
-ghost use Rattle.turns.specs.Runs.{turn, step};
-ghost use Rattle.turns.specs.Told.{tally, Slack, stateIn, stageIn, countOf, fineIn, withinOf, CheckedIn, Leaves, Ready, Tells};
-use crate::Limits;
-use crate::Op;
+ghost use Rattle.dynamics.specs.Turn.{bind, dropSmall, settle};
+ghost use Rattle.dynamics.specs.Runs.{turn, step};
+ghost use Rattle.turns.specs.Told.{tally, Slack, stateIn, stageIn, countOf, fineIn, withinOf, CheckedIn, AfterDrop, Ready, Tells};
 use crate::Tally;
 use crate::Turned;
 use crate::apply;
 use crate::peaks::counted;
+use ops::Limits;
+use ops::Op;
 
 // The number of terms and the tally, after a drop.
 pub(crate) struct Left {
@@ -40,7 +40,7 @@ pub(crate) fn drop_small(
     epsilon: f64,
 ) -> Left
     requires { ⌜ n ≤ rowsIn w (now words) (now coeffs) ⌝ }
-    ensures { λ r. ⌜ Leaves w n r (now (words .entry)) (now (words .exit)) (now (coeffs .entry)) (now (coeffs .exit)) (dropSmall epsilon (stateIn w n tally (now (words .entry)) (now (coeffs .entry)))) ⌝ }
+    ensures { λ r. ⌜ AfterDrop w n r (now (words .entry)) (now (words .exit)) (now (coeffs .entry)) (now (coeffs .exit)) (dropSmall epsilon (stateIn w n tally (now (words .entry)) (now (coeffs .entry)))) ⌝ }
 {
     let kept = sums::truncate::truncate(words, coeffs, w, n, epsilon);
     Left {

@@ -10,20 +10,20 @@ use lib.Ieee.{eq, ofBits}
 use lib.Seq.{getD-set-other, drop-set-lt}
 use Rattle.numbers.proofs.CloseLaws.{shown-≈, printed-bits-≈}
 use Rattle.text.specs.Bytes.{bytes, parts, newline, begins}
-use Rattle.turns.specs.declared.Op.{Op}
-use Rattle.turns.specs.Turn.{Stage, Outcome}
-use Rattle.turns.proofs.Alike.{Like, stops, goes, NearEnd}
-use Rattle.runs.specs.declared.Run.{Run}
-use Rattle.runs.specs.declared.Run.the-variants.{Path, Wide}
-use Rattle.runs.specs.Task.{Task, passes}
-use Rattle.runs.specs.Outcome.{outcomeOf}
-use Rattle.runs.specs.Wide.{Way, asPath, asWide, Provided, AgreesWithPath}
-use Rattle.runs.proofs.WideAgrees.{wide-agrees, near-wide}
+use Rattle.ops.specs.declared.Op.{Op}
+use Rattle.dynamics.specs.Turn.{Stage, Outcome}
+use Rattle.dynamics.proofs.Alike.{Like, stops, goes, NearEnd}
+use Rattle.ops.specs.declared.Run.{Run}
+use Rattle.ops.specs.declared.Run.the-variants.{Path, Wide}
+use Rattle.ops.specs.Task.{Task, passes}
+use Rattle.dynamics.specs.Outcome.{outcomeOf}
+use Rattle.cones.specs.Wide.{Way, asPath, asWide, Provided, AgreesWithPath}
+use Rattle.cones.proofs.WideAgrees.{wide-agrees, near-wide}
 use Rattle.lines.specs.Fields.{count, runField, orZero}
 use Rattle.lines.specs.TermLines.{TermLine}
 use Rattle.lines.specs.OpLines.{opOn}
 use Rattle.layout.specs.declared.Head.{Head}
-use Rattle.layout.specs.Layout.{kind, headKind, isLaidOut, badLine, headOf, question1, termLines, opList}
+use Rattle.layout.specs.Layout.{kind, headKind, isLaidOut, badLine, headOf, question1, termLines, sheetOps}
 use Rattle.replies.specs.Printed.{printed}
 use Rattle.sheet.specs.declared.Verdict.{Verdict}
 use Rattle.sheet.specs.declared.Verdict.the-variants.{RefusedAt, Passed}
@@ -60,7 +60,7 @@ judged h bad ts os room =
     (refusedOr 11 (firstNo question11 (h .terms) ts os)
     (firstFault (termFault h) 7 ts (firstFault (opFault h) (8 + h .terms) os (cond room Passed (RefusedAt 7 0))))))))
 
-verdict-is : (h : Head) (ls : List (List ℕ)) (rows places : ℕ) → verdict h ls rows places ≡ judged h (question1 h ls) (termLines h ls) (opList h ls) (question7 h rows places)
+verdict-is : (h : Head) (ls : List (List ℕ)) (rows places : ℕ) → verdict h ls rows places ≡ judged h (question1 h ls) (termLines h ls) (sheetOps h ls) (question7 h rows places)
 unfolding verdict judged
 verdict-is h ls rows places = refl
 
@@ -124,8 +124,8 @@ module _ (p q : List ℕ) (ps : List (List ℕ)) where
   alike rows places e =
       let h = headOf whole in
       verdict-as asPath (rows asPath) (places asPath)
-      ∙ judged-alike h _ (termLines h whole) (opList h whole) (leb (2 * h .limit) (rows asPath) && true)
-      ∙ ap₂ (λ (bad : ℕ) (room : Bool). judged (ran Wide h) bad (termLines h whole) (opList h whole) (room && true)) (laid-alike (h .terms) (h .ops)) e
+      ∙ judged-alike h _ (termLines h whole) (sheetOps h whole) (leb (2 * h .limit) (rows asPath) && true)
+      ∙ ap₂ (λ (bad : ℕ) (room : Bool). judged (ran Wide h) bad (termLines h whole) (sheetOps h whole) (room && true)) (laid-alike (h .terms) (h .ops)) e
       ∙ sym (verdict-as asWide (rows asWide) (places asWide))
 
 -- ---- the refusal before the run, of lines

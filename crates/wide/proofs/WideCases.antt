@@ -5,8 +5,8 @@ use mathlib.Core.Path.{_≡_, refl, sym, _∙_}
 use mathlib.Core.Bool.{true, false}
 use mathlib.Core.Logic.{_⊎_, inl, inr}
 use mathlib.Core.List.{List, [], _∷_}
-use Rattle.runs.specs.Wide.{asPath, asWide, Provided}
-use Rattle.runs.specs.Outcome.{allLetters, wideMarks}
+use Rattle.cones.specs.Wide.{asPath, asWide, Provided}
+use Rattle.dynamics.specs.Outcome.{allLetters, wideMarks}
 use Rattle.sheet.specs.SheetCone.{rejoined, taskOfBytes}
 use Rattle.sheet.specs.Screen.{bench}
 use Rattle.sheet.proofs.Cases.{computed, text}

@@ -6,7 +6,7 @@ use mathlib.Core.List.{List}
 use lib.Dec.{leb}
 use lib.ListN.{set}
 use Rattle.text.specs.Bytes.{bytes, parts, newline}
-use Rattle.runs.specs.Wide.{Way, asPath, asWide, Provided, AgreesWithPath}
+use Rattle.cones.specs.Wide.{Way, asPath, asWide, Provided, AgreesWithPath}
 use Rattle.layout.specs.Layout.{headOf}
 use Rattle.replies.specs.declared.Reply.{Reply}
 use Rattle.sheet.specs.declared.Verdict.{Verdict}

@@ -10,3 +10,5 @@ pub mod RowSteps
 pub mod RowLaws
 pub mod BitNumbers
 mod Place
+pub mod OnesLaws
+pub mod QuarterLaws

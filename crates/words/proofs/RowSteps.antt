@@ -6,7 +6,7 @@ use native.Mathlib.Nat.{div-zero, le-div-iff-mul-le, suc-mul, add-sub-cancel-lef
 use native.Mathlib.Omega.{arith}
 use lib.ListN.{take, drop}
 use lib.Seq.{drop-drop}
-use Rattle.words.specs.Rows.{rowAt, withRow}
+use Rattle.words.specs.Rows.{keyAt, withRow}
 
 pub rows-fit : (n w l : ℕ) → n ≤ l / (2 * w) → n * (2 * w) ≤ l
 rows-fit n zero l h = let z : n ≤ 0 = subst (λ (x : ℕ). n ≤ x) (div-zero l) h in omega arith
@@ -19,7 +19,7 @@ pub no-rows : (n w : ℕ) → n / 2 < w → n / (2 * w) ≡ 0
 no-rows n w h = div-eq-of-lt (omega arith)
 
 module _ (w r : ℕ) (ws : List ℕ) where
-  pub part-is : take (r * (2 * w) + 2 * w - r * (2 * w)) (drop (r * (2 * w)) ws) ≡ rowAt w r ws
+  pub part-is : take (r * (2 * w) + 2 * w - r * (2 * w)) (drop (r * (2 * w)) ws) ≡ keyAt (2 * w) ws r
   part-is = ap (λ (n : ℕ). take n (drop (r * (2 * w)) ws)) (add-sub-cancel-left (r * (2 * w)) (2 * w))
 
   pub part-back : (k : List ℕ) → take (r * (2 * w)) ws ++ (k ++ drop (r * (2 * w) + 2 * w - r * (2 * w)) (drop (r * (2 * w)) ws)) ≡ withRow w r k ws

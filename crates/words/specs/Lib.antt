@@ -1,4 +1,5 @@
 pub mod Keys
+pub mod Letters
 pub mod Gates
 pub mod Rows
 pub mod Tableau

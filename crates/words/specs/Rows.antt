@@ -4,9 +4,11 @@ use mathlib.Core.List.{List, _++_}
 use lib.ListN.{take, drop}
 use Rattle.words.specs.Keys.{Key}
 
--- the key of row r, and the buffer with k as its row r
-abbrev pub rowAt : ℕ → ℕ → List ℕ → Key
-rowAt w r ws = take (2 * w) (drop (r * (2 * w)) ws)
+-- the key of row i, where a row has s words
+abbrev pub keyAt : ℕ → List ℕ → ℕ → Key
+keyAt s ws i = take s (drop (i * s) ws)
+
+-- the buffer with k as its row r
 
 abbrev pub withRow : ℕ → ℕ → Key → List ℕ → List ℕ
 withRow w r k ws = take (r * (2 * w)) ws ++ (k ++ drop (r * (2 * w) + 2 * w) ws)

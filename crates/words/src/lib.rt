@@ -1,6 +1,7 @@
 // Pauli words as bits, and one word through one Clifford gate.
 pub mod gates;
 pub mod keys;
+pub mod letters;
 pub mod rows;
 
 // The native Clifford gates. Cx has its control first.

@@ -4,7 +4,7 @@ use Prim.Native.Nat.{ℕ, _-_, _*_, _≤_, _<_, min}
 use native.Mathlib.Omega.{arith}
 use lib.ListN.{drop}
 use denote.Ref.{now}
-use Rattle.rows.specs.Rows.{keyAt}
+use Rattle.words.specs.Rows.{keyAt}
 use Rattle.branches.specs.Chains.{hashed, classOf}
 use Rattle.branches.proofs.ProbeLaws.{class-whole, class-word}
 use Rattle.branches.proofs.HashLaws.{hash-turn, hash-end, bucket-lt}

@@ -3,7 +3,7 @@ use mathlib.Core.Path.{refl}
 use native.Mathlib.Omega.{arith}
 use Prim.Native.Nat.{_+_, _/_, _%_}
 use Rattle.branches.proofs.HashLaws.{mix-fits}
-use Rattle.branches.specs.Chains.{mixed}
+use Rattle.branches.specs.Chains.{stirred}
 use borrow.Author.Needs.{needs}
 use Rattle.branches.proofs.chains.mix.Statement.{statement}
 use Rattle.branches.proofs.chains.mix.Tie as tie
@@ -15,7 +15,7 @@ add-result c =
     record { fits = mix-fits ((h / 4294967296 + h % 4294967296 + v % 4294967296) % 4294967296) (v / 4294967296) (omega arith) (omega arith) }
 
 returns : tie.Need-returns
-unfolding mixed
+unfolding stirred
 returns c = refl
 
 pub mix-spec : {M : Type 1} → statement M

@@ -3,7 +3,7 @@ use mathlib.Core.Path.{_≡_, sym, subst}
 use Prim.Native.Nat.{ℕ, _-_, _*_, _<_}
 use native.Mathlib.Omega.{arith}
 use Rattle.words.specs.Keys.{sameKey}
-use Rattle.rows.specs.Rows.{keyAt}
+use Rattle.words.specs.Rows.{keyAt}
 use Rattle.rows.proofs.RowLaws.{row-before}
 use Rattle.branches.specs.Probe.{soughtBy}
 use Rattle.branches.specs.Chains.{Linked}

@@ -1,5 +1,5 @@
 -- `apply_backward_channel` meets its contract: none is met, or the terms go through the channel. Assumes nothing.
-use mathlib.Core.Path.{_≡_, sym, ap, _∙_}
+use mathlib.Core.Path.{refl, _≡_, sym, ap, _∙_}
 use mathlib.Core.Bool.{Bool, true}
 use Prim.Native.Nat.{ℕ}
 use denote.Ref.{now}
@@ -23,13 +23,16 @@ returns c =
     let m = met (c .before .before .before .before .before .before .before .before .before .before) two (c .before .before .before .met-rows .ensures) in
     let qs = kindTargets (a .action .kind) (a .a) (a .b) in
     let f : inWords (a .w) qs ≡ true = ap (λ (t : Bool). inWords (a .w) (oneOrTwo t (a .a) (a .b))) (sym two) ∙ sym (c .before .has-targets .ensures) ∙ c .if2 .taken in (
-      m,
-      same-grown (a .w) (a .n) _ (now (a .words)) (now (a .coeffs))
-          (λ e. bare-channeled (a .w) (a .a) (a .b) (a .action) _ (untouched-bare (a .w) (a .n) qs (now (a .words)) (now (a .coeffs)) (sym m ∙ c .before .before .if1 .taken) f (once (a .w) (a .n) (now (a .words)) (now (a .coeffs)) e))),
+      (
+        m,
+        same-grown (a .w) (a .n) _ (now (a .words)) (now (a .coeffs))
+            (λ e. bare-channeled (a .w) (a .a) (a .b) (a .action) _ (untouched-bare (a .w) (a .n) qs (now (a .words)) (now (a .coeffs)) (sym m ∙ c .before .before .if1 .taken) f (once (a .w) (a .n) (now (a .words)) (now (a .coeffs)) e))),
+      ),
+      refl,
     )
 
 returns-2 : tie.Need-returns-2
-returns-2 c = (met (c .before .before .before .before .before .before .before .before .before .before .before .before .before .before .before .before .before .before) (c .before .before .before .before .before .before .before .before .before .before .before .before .before .before .on-two .ensures) (c .before .before .before .before .before .before .before .before .before .before .before .met-rows .ensures), c .before .before .before .before .before .before .channel-held .ensures)
+returns-2 c = ((met (c .before .before .before .before .before .before .before .before .before .before .before .before .before .before .before .before .before .before) (c .before .before .before .before .before .before .before .before .before .before .before .before .before .before .on-two .ensures) (c .before .before .before .before .before .before .before .before .before .before .before .met-rows .ensures), c .before .before .before .before .before .before .channel-held .ensures), search needs)
 
 pub apply-backward-channel-spec : {M : Type 1} → statement M
 apply-backward-channel-spec =

@@ -1,7 +1,7 @@
 -- `row_has_letter` meets its contract. Assumes nothing.
 use Prim.Native.Nat.{_*_}
 use denote.Ref.{now}
-use Rattle.rows.specs.Rows.{keyAt}
+use Rattle.words.specs.Rows.{keyAt}
 use Rattle.branches.proofs.ChannelRows.{letter-yes, letter-no}
 use borrow.Author.Needs.{needs}
 use Rattle.branches.proofs.channels.row_has_letter.Statement.{statement}

@@ -1,7 +1,7 @@
 -- `row_is_z` meets its contract. Assumes nothing.
 use Prim.Native.Nat.{_*_}
 use denote.Ref.{now}
-use Rattle.rows.specs.Rows.{keyAt}
+use Rattle.words.specs.Rows.{keyAt}
 use Rattle.branches.proofs.ChannelRows.{not-z, maybe-z}
 use borrow.Author.Needs.{needs}
 use Rattle.branches.proofs.channels.row_is_z.Statement.{statement}

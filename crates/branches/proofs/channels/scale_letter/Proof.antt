@@ -3,7 +3,7 @@ use Prim.Native.Nat.{_*_}
 use mathlib.Core.Path.{sym, _∙_}
 use native.Mathlib.Omega.{arith}
 use denote.Ref.{now}
-use Rattle.rows.specs.Rows.{keyAt}
+use Rattle.words.specs.Rows.{keyAt}
 use Rattle.branches.proofs.ChannelRows.{letter-small, letter-none, letter-scaled}
 use borrow.Author.Needs.{needs}
 use Rattle.branches.proofs.channels.scale_letter.Statement.{statement}

@@ -25,26 +25,30 @@ walk-requires c κs =
     let r = row-before (2 * s .args .w) (s .pre .0) in
     (omega arith, (omega arith, (c .before .bucket-of .ensures .1, s .pre .1 .1 .1 .1 .1 .links)))
 
+row-odd-requires : tie.Need-row-odd-requires
+row-odd-requires c κs = let s = c .before .before .before .before .before .before in let r = row-before (2 * s .args .w) (s .pre .0) in omega arith
+
 join-requires : tie.Need-join-requires
 join-requires c κs =
-    let s = c .before .before .before .before .before .before .before in
+    let s = c .before .before .before .before .before .before .before .before in
     let a = s .args in
     let S = s .pre .1 .1 .1 .1 .1 in
     let l = S .room in
     let h = s .pre .0 in
     let g = s .pre .1 .1 .0 in
-    let r = walked-at (Partner (a .axis)) (a .w) (now (a .words)) (a .i) (a .buckets) (now (a .index)) (a .i) _ (S .links) (c .before .before .walk .ensures) (omega arith) .0 in
-    (omega arith, (omega arith, (omega arith, omega arith)))
+    let r = walked-at (Partner (a .axis)) (a .w) (now (a .words)) (a .i) (a .buckets) (now (a .index)) (a .i) _ (S .links) (c .before .before .before .walk .ensures) (omega arith) .0 in
+    (omega arith, (omega arith, (omega arith, c .before .row-odd .ensures .1)))
 
 returns : tie.Need-returns
 returns c e =
-    let s = c .before .before .before .before .before .before .before .before .before .before in
+    let s = c .before .before .before .before .before .before .before .before .before .before .before in
     let a = s .args in
     let S = s .pre .1 .1 .1 .1 .1 in
     let j = c .before .before .join .ensures e in
-    let r = walked-at (Partner (a .axis)) (a .w) (now (a .words)) (a .i) (a .buckets) (now (a .index)) (a .i) _ (S .links) (c .before .before .before .before .before .walk .ensures) (omega arith) in
+    let o = c .before .before .before .before .row-odd .ensures in
+    let r = walked-at (Partner (a .axis)) (a .w) (now (a .words)) (a .i) (a .buckets) (now (a .index)) (a .i) _ (S .links) (c .before .before .before .before .before .before .walk .ensures) (omega arith) in
     subst (Pairing (a .axis) (a .w) (now (a .words)) (a .n) (a .i + 1) (a .buckets)) (sym (j .1))
-    (pairing-joined (a .axis) (a .w) (now (a .words)) (a .n) (a .i) (a .buckets) (now (a .index)) (s .pre .1 .1 .1 .0) (s .pre .0) (s .pre .1 .0) S (s .pre .1 .1 .1 .1 .0) _ (r .0) (r .1) (j .0))
+    (pairing-joined (a .axis) (a .w) (now (a .words)) (a .n) (a .i) (a .buckets) (now (a .index)) (s .pre .1 .1 .1 .0) (s .pre .0) (s .pre .1 .0) S (s .pre .1 .1 .1 .1 .0) _ (r .0) (r .1) (j .0) _ (o .1) (o .0))
 
 walk-requires-2 : tie.Need-walk-requires-2
 walk-requires-2 c κs =
@@ -74,4 +78,4 @@ returns-3 c e =
 pub pair-met-spec : {M : Type 1} → statement M
 pair-met-spec =
     tie.close
-    (tie.spec bucket-of-requires walk-requires (λ c. search needs) (λ c. search needs) join-requires (λ c. search needs) returns walk-requires-2 (λ c. search needs) returns-2 begin-requires (λ c. search needs) returns-3)
+    (tie.spec bucket-of-requires walk-requires row-odd-requires (λ c. search needs) (λ c. search needs) join-requires (λ c. search needs) returns walk-requires-2 (λ c. search needs) returns-2 begin-requires (λ c. search needs) returns-3)

@@ -8,7 +8,7 @@ use Rattle.words.specs.Keys.{sameKey}
 use Rattle.terms.specs.declared.Found.the-variants.{Nothing}
 use Rattle.terms.specs.Branch.{first}
 use Rattle.terms.proofs.FirstLaws.{first-none, first-here, first-more}
-use Rattle.rows.specs.Rows.{keyAt}
+use Rattle.words.specs.Rows.{keyAt}
 use Rattle.branches.specs.Probe.{soughtBy}
 use Rattle.rows.proofs.RowLaws.{row-before}
 use Rattle.branches.proofs.probe.scan.Statement.{statement}

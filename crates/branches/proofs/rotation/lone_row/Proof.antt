@@ -26,7 +26,7 @@ returns c = let s = c .before .before .before .before .before .before .before .b
       omega arith,
       lone-turned (a .w) (metBy (a .axis)) (partnerBy (a .w) (a .axis)) (a .sin) (a .cos) (2 * a .w) (a .m) (a .i) (now (a .words)) (now (a .coeffs)) (partner-length (a .w) (a .axis)) (s .pre .1) (s .pre .0)
           (c .before .before .before .before .before .before .before .before .if1 .taken) (c .before .before .before .before .before .before .before .before .before .before .before .before .value-at .ensures) (c .before .before .before .before .before .before .flip-row .ensures)
-          (c .before .before .before .before .before .before .before .before .before .flipped .ensures ∙ ap (λ (o : Bool). flippedOf o (a .sin) (c .before .before .before .before .before .before .before .before .before .before .before .before .value-at .result)) (c .before .before .before .before .before .before .before .before .before .before .row-odd .ensures)) (c .before .before .store-value .ensures),
+          (c .before .before .before .before .before .before .before .before .before .flipped .ensures ∙ ap (λ (o : Bool). flippedOf o (a .sin) (c .before .before .before .before .before .before .before .before .before .before .before .before .value-at .result)) (c .before .before .before .before .before .before .before .before .before .before .row-odd .ensures .0)) (c .before .before .store-value .ensures),
     )
 
 returns-2 : tie.Need-returns-2
@@ -37,7 +37,7 @@ returns-2 c = let s = c .before .before .before .before .before .before .before 
       omega arith,
       lone-grown (a .w) (metBy (a .axis)) (partnerBy (a .w) (a .axis)) (a .sin) (a .cos) (2 * a .w) (a .m) (a .i) (now (a .words)) (now (a .coeffs)) (partner-length (a .w) (a .axis)) (s .pre .1) (s .pre .0)
           (c .before .before .before .before .before .before .before .before .before .before .before .before .if1 .left) (c .before .before .before .before .before .before .before .before .before .before .before .before .before .before .before .before .value-at .ensures) (c .before .before .before .before .before .before .before .before .before .before .scaled .ensures) (c .before .before .before .before .before .before .before .before .before .store-value2 .ensures)
-          (c .before .before .before .before .before .before .before .before .before .before .before .before .before .flipped .ensures ∙ ap (λ (o : Bool). flippedOf o (a .sin) (c .before .before .before .before .before .before .before .before .before .before .before .before .before .before .before .before .value-at .result)) (c .before .before .before .before .before .before .before .before .before .before .before .before .before .before .row-odd .ensures)) (e .0) (e .1),
+          (c .before .before .before .before .before .before .before .before .before .before .before .before .before .flipped .ensures ∙ ap (λ (o : Bool). flippedOf o (a .sin) (c .before .before .before .before .before .before .before .before .before .before .before .before .before .before .before .before .value-at .result)) (c .before .before .before .before .before .before .before .before .before .before .before .before .before .before .row-odd .ensures .0)) (e .0) (e .1),
     )
 
 pub lone-row-spec : {M : Type 1} → statement M

@@ -1,5 +1,5 @@
 -- `coalesce` meets its contract. Assumes nothing.
-use mathlib.Core.Path.{sym, subst}
+use mathlib.Core.Path.{refl, sym, subst}
 use native.Mathlib.Omega.{arith}
 use denote.Ref.{now}
 use Rattle.rows.proofs.StepLaws.{rows-room}
@@ -15,9 +15,9 @@ share-rows-requires c κs = let a = c .before .before .before .before .before .b
     (rows-room (a .w) (a .n) (now (a .words)) (now (a .coeffs)) (omega arith), (subst (Spare (a .n) _) (sym (c .before .before .before .before .before .build .kept .1 .1 .1 .1 .1 .0)) (e .1), e .0))
 
 returns-3 : tie.Need-returns-3
-returns-3 c = let a = c .before .before .before .before .before .before .before .before .before .before .before .before .before .before .before .before .before .before .before .before .before .before .before .before .before .before .before .before .args in coalesced-done (a .w) (a .n) (c .before .before .before .before .before .before .before .before .before .before .before .before .before .before .before .before .before .before .before .before .before .before .before .rows-in .ensures) (c .before .before .before .before .before .before .before .before .before .before .before .before .before .before .before .before .before .before .before .before .before .before .if2 .left) (c .before .before .before .before .before .before .before .before .before .before .before .before .before .share-rows .ensures) (c .before .before .before .before .clear-rows .ensures)
+returns-3 c = let a = c .before .before .before .before .before .before .before .before .before .before .before .before .before .before .before .before .before .before .before .before .before .before .before .before .before .before .before .before .args in (coalesced-done (a .w) (a .n) (c .before .before .before .before .before .before .before .before .before .before .before .before .before .before .before .before .before .before .before .before .before .before .before .rows-in .ensures) (c .before .before .before .before .before .before .before .before .before .before .before .before .before .before .before .before .before .before .before .before .before .before .if2 .left) (c .before .before .before .before .before .before .before .before .before .before .before .before .before .share-rows .ensures) (c .before .before .before .before .clear-rows .ensures), search needs)
 
 pub coalesce-spec : {M : Type 1} → statement M
 coalesce-spec =
     tie.close
-    (tie.spec (λ c. coalesced-none _ _ (c .if1 .taken)) (λ c κs. search needs) (λ c. coalesced-past _ _ (c .before .rows-in .ensures) (c .if2 .taken)) (λ c κs. search needs) share-rows-requires (λ c κs. search needs) (λ c. search needs) (λ c. search needs) (λ c. search needs) returns-3)
+    (tie.spec (λ c. (coalesced-none _ _ (c .if1 .taken), refl)) (λ c κs. search needs) (λ c. (coalesced-past _ _ (c .before .rows-in .ensures) (c .if2 .taken), refl)) (λ c κs. search needs) share-rows-requires (λ c κs. search needs) (λ c. search needs) (λ c. search needs) (λ c. search needs) returns-3)

@@ -5,7 +5,7 @@ use native.Mathlib.Omega.{arith}
 use borrow.Author.Needs.{needs}
 use denote.Ref.{now}
 use lib.ListN.{length}
-use Rattle.turns.specs.OpList.{opRoom}
+use Rattle.ops.specs.OpList.{opRoom}
 use Rattle.lines.specs.OpLines.{opOn}
 use Rattle.layout.specs.Cursor.{lineAt, startAt}
 use Rattle.layout.specs.Loaded.{codesWith, realsWith}

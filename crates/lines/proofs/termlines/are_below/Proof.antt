@@ -7,7 +7,7 @@ use borrow.Author.Needs.{needs}
 use borrow.Author.Tests.{le-ltb, lt-ltb}
 use lib.ListN.{length}
 use lib.Dec.{ltb}
-use Rattle.runs.specs.Task.{every}
+use Rattle.ops.specs.Task.{every}
 use Rattle.text.specs.Bytes.{parts, comma}
 use Rattle.lines.specs.TermLines.{factorTexts, factorOf, qubitsIn, allBelow}
 use Rattle.lines.proofs.FactorLaws.{texts-none, texts-some, left-less, at-next, at-last, at-stop}

@@ -5,7 +5,7 @@ use mathlib.Core.Bool.{Bool, true, false, _&&_}
 use mathlib.Core.List.{List, map}
 use borrow.Author.Needs.{needs}
 use lib.ListN.{length, set}
-use Rattle.runs.specs.Task.{every}
+use Rattle.ops.specs.Task.{every}
 use Rattle.text.specs.Bytes.{parts, comma}
 use Rattle.lines.specs.TermLines.{factorTexts, factorOf, qubitsIn, allBelow, distinct}
 use Rattle.lines.proofs.DistinctLaws.{fresh, fresh-start, fresh-high, fresh-seen, fresh-next}

@@ -1,9 +1,9 @@
 -- `run_t_count` meets its contract. Assumes nothing.
 use mathlib.Core.Path.{sym, ap, _∙_}
 use denote.Ref.{now}
-use Rattle.turns.specs.OpList.{opList}
-use Rattle.runs.specs.declared.Run.{Run}
-use Rattle.runs.specs.Outcome.{tCountOf}
+use Rattle.ops.specs.OpList.{opList}
+use Rattle.ops.specs.declared.Run.{Run}
+use Rattle.dynamics.specs.Outcome.{tCountOf}
 use borrow.Author.Needs.{needs}
 use Rattle.runs.proofs.counts.run_t_count.Statement.{statement}
 use Rattle.runs.proofs.counts.run_t_count.Tie as tie

@@ -4,20 +4,20 @@ use mathlib.Core.Bool.{false}
 use Prim.Native.Nat.{ℕ, _*_, _/_, min}
 use lib.ListN.{length, replicate}
 use denote.Ref.{now}
-use Rattle.turns.specs.OpList.{opList}
-use Rattle.turns.specs.Marks.{overlay, coneMarks, lettersInAny}
-use Rattle.turns.proofs.MarkLaws.{length-cone}
+use Rattle.ops.specs.OpList.{opList}
+use Rattle.ops.specs.Sets.{overlay, setMarks, lettersInAny}
+use Rattle.ops.proofs.MarkLaws.{length-cone}
 use Rattle.runs.proofs.WideCode.{wide-ran}
-use Rattle.runs.proofs.SumLaws.{sum-marked, few-ops}
+use Rattle.turns.proofs.SumLaws.{sum-marked, few-ops}
 use borrow.Author.Needs.{needs}
 use Rattle.runs.proofs.observable.run_pauli_path_light_cone.Statement.{statement}
 use Rattle.runs.proofs.observable.run_pauli_path_light_cone.Tie as tie
 
 returns : tie.Need-returns
 returns c = let a = c .before .before .before .before .before .before .before .before .before .before .before .before .before .before .before .before .before .before .before .before .before .before .args in
-    wide-ran (a .qubits) (a .limits) (now (a .keys)) (now (a .weights)) (opList (a .n) (now (a .codes)) (now (a .reals))) (a .lines)
-    (sum-marked (a .qubits) (a .limits) (now (a .keys)) (now (a .weights)) (a .lines) (opList (a .n) (now (a .codes)) (now (a .reals))) _ (replicate 4096 false) (length-cone _ (opList (a .n) (now (a .codes)) (now (a .reals)))) (few-ops (a .n) (now (a .codes)) (now (a .reals)))
-    (c .before .before .before .before .before .before .before .before .before .before .before .before .wide-marks .ensures ∙ ap (λ (w : ℕ). overlay (coneMarks (lettersInAny w (now (a .keys)) (min (a .lines) (length (now (a .keys)) / (2 * w)))) (opList (a .n) (now (a .codes)) (now (a .reals)))) (replicate 4096 false)) (c .before .before .before .before .before .before .before .before .before .before .before .before .before .before .width .ensures)) (c .before .before .before .before .before .before .run-sum .ensures))
+    wide-ran (a .qubits) (a .limits) (now (a .keys)) (now (a .weights)) (a .lines) (now (a .codes)) (now (a .reals)) (a .n)
+    (sum-marked (a .qubits) (a .limits) (now (a .keys)) (now (a .weights)) (a .lines) (now (a .codes)) (now (a .reals)) (a .n) _ (replicate 4096 false) (length-cone _ (opList (a .n) (now (a .codes)) (now (a .reals)))) (few-ops (a .n) (now (a .codes)) (now (a .reals)))
+    (c .before .before .before .before .before .before .before .before .before .before .before .before .wide-marks .ensures ∙ ap (λ (w : ℕ). overlay (setMarks (lettersInAny w (now (a .keys)) (min (a .lines) (length (now (a .keys)) / (2 * w)))) (opList (a .n) (now (a .codes)) (now (a .reals)))) (replicate 4096 false)) (c .before .before .before .before .before .before .before .before .before .before .before .before .before .before .width .ensures)) (c .before .before .before .before .before .before .run-sum .ensures))
 
 pub run-pauli-path-light-cone-spec : {M : Type 1} → statement M
 run-pauli-path-light-cone-spec =

@@ -4,20 +4,20 @@ use mathlib.Core.Bool.{false}
 use Prim.Native.Nat.{ℕ}
 use lib.ListN.{replicate}
 use denote.Ref.{now}
-use Rattle.turns.specs.OpList.{opList}
-use Rattle.turns.specs.Marks.{overlay, coneMarks, lettersIn}
-use Rattle.turns.proofs.MarkLaws.{length-cone}
+use Rattle.ops.specs.OpList.{opList}
+use Rattle.ops.specs.Sets.{overlay, setMarks, lettersIn}
+use Rattle.ops.proofs.MarkLaws.{length-cone}
 use Rattle.runs.proofs.ConeCode.{cone-ran}
-use Rattle.runs.proofs.SumLaws.{sum-marked, few-ops}
+use Rattle.turns.proofs.SumLaws.{sum-marked, few-ops}
 use borrow.Author.Needs.{needs}
 use Rattle.runs.proofs.observable.run_spd_observable_light_cone.Statement.{statement}
 use Rattle.runs.proofs.observable.run_spd_observable_light_cone.Tie as tie
 
 returns : tie.Need-returns
 returns c = let a = c .before .before .before .before .before .before .before .before .before .before .before .before .before .before .before .before .before .before .before .before .before .before .args in
-    cone-ran (a .qubits) (a .limits) (now (a .keys)) (now (a .weights)) (opList (a .n) (now (a .codes)) (now (a .reals))) (a .lines)
-    (sum-marked (a .qubits) (a .limits) (now (a .keys)) (now (a .weights)) (a .lines) (opList (a .n) (now (a .codes)) (now (a .reals))) _ (replicate 4096 false) (length-cone _ (opList (a .n) (now (a .codes)) (now (a .reals)))) (few-ops (a .n) (now (a .codes)) (now (a .reals)))
-    (c .before .before .before .before .before .before .before .before .before .before .before .before .inverse-light-cone .ensures ∙ ap (λ (w : ℕ). overlay (coneMarks (lettersIn w (now (a .keys))) (opList (a .n) (now (a .codes)) (now (a .reals)))) (replicate 4096 false)) (c .before .before .before .before .before .before .before .before .before .before .before .before .before .before .width .ensures)) (c .before .before .before .before .before .before .run-sum .ensures))
+    cone-ran (a .qubits) (a .limits) (now (a .keys)) (now (a .weights)) (a .lines) (now (a .codes)) (now (a .reals)) (a .n)
+    (sum-marked (a .qubits) (a .limits) (now (a .keys)) (now (a .weights)) (a .lines) (now (a .codes)) (now (a .reals)) (a .n) _ (replicate 4096 false) (length-cone _ (opList (a .n) (now (a .codes)) (now (a .reals)))) (few-ops (a .n) (now (a .codes)) (now (a .reals)))
+    (c .before .before .before .before .before .before .before .before .before .before .before .before .inverse-light-cone .ensures .bySet ∙ ap (λ (w : ℕ). overlay (setMarks (lettersIn w (now (a .keys))) (opList (a .n) (now (a .codes)) (now (a .reals)))) (replicate 4096 false)) (c .before .before .before .before .before .before .before .before .before .before .before .before .before .before .width .ensures)) (c .before .before .before .before .before .before .run-sum .ensures))
 
 pub run-spd-observable-light-cone-spec : {M : Type 1} → statement M
 run-spd-observable-light-cone-spec =

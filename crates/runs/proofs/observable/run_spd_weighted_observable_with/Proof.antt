@@ -2,15 +2,15 @@
 use mathlib.Core.Bool.{false}
 use lib.ListN.{replicate}
 use denote.Ref.{now}
-use Rattle.turns.specs.OpList.{opList}
-use Rattle.runs.proofs.SumLaws.{sum-marked, all-long, few-ops}
+use Rattle.ops.specs.OpList.{opList}
+use Rattle.turns.proofs.SumLaws.{sum-marked, all-long, few-ops}
 use borrow.Author.Needs.{needs}
 use Rattle.runs.proofs.observable.run_spd_weighted_observable_with.Statement.{statement}
 use Rattle.runs.proofs.observable.run_spd_weighted_observable_with.Tie as tie
 
 returns : tie.Need-returns
 returns c = let a = c .before .before .before .before .before .before .before .before .before .before .before .before .before .before .before .before .before .before .before .before .before .args in
-    sum-marked (a .qubits) (a .limits) (now (a .keys)) (now (a .weights)) (a .lines) (opList (a .n) (now (a .codes)) (now (a .reals))) _ (replicate 4096 false) (all-long (opList (a .n) (now (a .codes)) (now (a .reals)))) (few-ops (a .n) (now (a .codes)) (now (a .reals)))
+    sum-marked (a .qubits) (a .limits) (now (a .keys)) (now (a .weights)) (a .lines) (now (a .codes)) (now (a .reals)) (a .n) _ (replicate 4096 false) (all-long (opList (a .n) (now (a .codes)) (now (a .reals)))) (few-ops (a .n) (now (a .codes)) (now (a .reals)))
     (c .before .before .before .before .before .before .before .before .before .before .before .before .full-marks .ensures) (c .before .before .before .before .before .before .run-sum .ensures)
 
 pub run-spd-weighted-observable-with-spec : {M : Type 1} → statement M

@@ -3,7 +3,7 @@ use Prim.Native.Nat.{_+_}
 use Rattle.layout.specs.Layout.{termLines}
 use Rattle.sheet.specs.Questions.{termFault, opFault, firstFault}
 use Rattle.text.specs.Bytes.{parts, newline}
-use Rattle.turns.specs.declared.Op.{Op}
+use Rattle.ops.specs.declared.Op.{Op}
 use mathlib.Core.List.{List}
 use mathlib.Core.Path.{ap, _∙_}
 use borrow.Author.Needs.{needs}

@@ -3,8 +3,8 @@ use Prim.Native.Nat.{_+_, _-_, _≤_, _<_}
 use Rattle.sheet.proofs.FaultLaws.{fault-start, fault-stop, fault-next, fault-none}
 use Rattle.sheet.specs.Asking.{tableOps}
 use Rattle.sheet.specs.Questions.{opFault, firstFault}
-use Rattle.turns.proofs.OpListLaws.{op-counted, op-listed}
-use Rattle.turns.specs.declared.Op.the-variants.{Native}
+use Rattle.ops.proofs.OpListLaws.{op-counted, op-listed}
+use Rattle.ops.specs.declared.Op.the-variants.{Native}
 use Rattle.words.specs.declared.Gate.the-variants.{Id}
 use denote.Ref.{now}
 use lib.ListN.{drop, length}

@@ -11,7 +11,7 @@ returns : tie.Need-returns
 unfolding lineOn
 returns c =
     let at = c .before .before .before .before in
-    c .fault-of .ensures ∙ ap₂ faultOf (c .before .before .factors-below .ensures) (c .before .factors-distinct .ensures)
+    c .fault-of .ensures ∙ ap₂ faultOf (c .before .before .factors-below .ensures) (c .before .factors-distinct .ensures .0)
     ∙ fault-by-set (at .args .head .qubits) (qubitsIn (lineOn (at .args .l .now) .factors)) (at .pre)
 
 pub term-fault-spec : {M : Type 1} → statement M

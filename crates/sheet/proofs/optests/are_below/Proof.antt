@@ -1,6 +1,6 @@
 -- `are_below` meets its contract. Assumes nothing.
 use Rattle.lines.specs.TermLines.{allBelow}
-use Rattle.runs.specs.Task.{every}
+use Rattle.ops.specs.Task.{every}
 use Rattle.sheet.proofs.OpLaws.{by-targets, every-one, every-two}
 use mathlib.Core.Path.{refl}
 use borrow.Author.Needs.{needs}

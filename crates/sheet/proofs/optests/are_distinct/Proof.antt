@@ -1,5 +1,5 @@
 -- `are_distinct` meets its contract. Assumes nothing.
-use Rattle.runs.specs.Task.{distinctTargets}
+use Rattle.ops.specs.Task.{distinctTargets}
 use Rattle.sheet.proofs.OpLaws.{by-targets}
 use mathlib.Core.Path.{refl}
 use borrow.Author.Needs.{needs}

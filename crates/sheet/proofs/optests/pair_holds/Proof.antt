@@ -1,5 +1,5 @@
 -- `pair_holds` meets its contract. Assumes nothing.
-use Rattle.runs.specs.Task.{pairHolds}
+use Rattle.ops.specs.Task.{pairHolds}
 use Rattle.sheet.proofs.OpLaws.{by-op}
 use mathlib.Core.Path.{refl}
 use borrow.Author.Needs.{needs}

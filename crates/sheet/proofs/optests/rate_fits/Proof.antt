@@ -1,7 +1,7 @@
 -- `rate_fits` meets its contract. Assumes nothing.
-use Rattle.runs.specs.Task.{realFits}
+use Rattle.ops.specs.Task.{realFits}
 use Rattle.sheet.proofs.OpLaws.{every-one}
-use Rattle.turns.specs.Ops.{channel}
+use Rattle.ops.specs.Ops.{channel}
 use borrow.Author.Needs.{needs}
 use Rattle.sheet.proofs.optests.rate_fits.Statement.{statement}
 use Rattle.sheet.proofs.optests.rate_fits.Tie as tie

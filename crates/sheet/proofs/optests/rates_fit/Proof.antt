@@ -1,7 +1,7 @@
 -- `rates_fit` meets its contract. Assumes nothing.
-use Rattle.runs.specs.Task.{realFits}
+use Rattle.ops.specs.Task.{realFits}
 use Rattle.sheet.proofs.OpLaws.{every-three}
-use Rattle.turns.specs.Ops.{channel}
+use Rattle.ops.specs.Ops.{channel}
 use borrow.Author.Needs.{needs}
 use Rattle.sheet.proofs.optests.rates_fit.Statement.{statement}
 use Rattle.sheet.proofs.optests.rates_fit.Tie as tie

@@ -1,5 +1,5 @@
 -- `reals_fit` meets its contract. Assumes nothing.
-use Rattle.runs.specs.Task.{every, realsFit}
+use Rattle.ops.specs.Task.{every, realsFit}
 use Rattle.sheet.proofs.OpLaws.{by-op}
 use mathlib.Core.Path.{refl}
 use borrow.Author.Needs.{needs}

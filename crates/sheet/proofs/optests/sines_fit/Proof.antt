@@ -1,7 +1,7 @@
 -- `sines_fit` meets its contract. Assumes nothing.
-use Rattle.runs.specs.Task.{realFits}
+use Rattle.ops.specs.Task.{realFits}
 use Rattle.sheet.proofs.OpLaws.{every-two}
-use Rattle.turns.specs.Ops.{rotation}
+use Rattle.ops.specs.Ops.{rotation}
 use borrow.Author.Needs.{needs}
 use Rattle.sheet.proofs.optests.sines_fit.Statement.{statement}
 use Rattle.sheet.proofs.optests.sines_fit.Tie as tie

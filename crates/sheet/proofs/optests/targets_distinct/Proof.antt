@@ -1,5 +1,5 @@
 -- `targets_distinct` meets its contract. Assumes nothing.
-use Rattle.runs.specs.Task.{distinctTargets}
+use Rattle.ops.specs.Task.{distinctTargets}
 use Rattle.sheet.proofs.OpLaws.{of-targets}
 use borrow.Author.Needs.{needs}
 use Rattle.sheet.proofs.optests.targets_distinct.Statement.{statement}

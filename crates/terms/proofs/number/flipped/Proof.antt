@@ -2,7 +2,7 @@
 use mathlib.Core.Path.{ap, _∙_}
 use lib.Ieee.{Float, binary64, neg, mul}
 use borrow.Author.Needs.{needs}
-use Rattle.terms.specs.Letters.{isOdd}
+use Rattle.words.specs.Letters.{isOdd}
 use Rattle.terms.proofs.SignLaws.{flip-by-sine}
 use Rattle.terms.proofs.number.flipped.Statement.{statement}
 use Rattle.terms.proofs.number.flipped.Tie as tie

@@ -1,7 +1,6 @@
 -- `apply_backward` meets its contract: the op of each case. Assumes nothing.
 use denote.Ref.{now}
-use Rattle.turns.specs.declared.Op.the-variants.{Native, Rz, P, Rzz}
-use Rattle.turns.specs.declared.Op.the-variants.{Pauli, Depol, Damp, Phase, Thermal, Depol2}
+use Rattle.ops.specs.declared.Op.the-variants.{Native, Rz, P, Rzz, Pauli, Depol, Damp, Phase, Thermal, Depol2}
 use Rattle.terms.proofs.TargetLaws.{action-kind}
 use Rattle.turns.proofs.ApplyLaws.{acted, acted-t, acted-tdg, acted-barrier}
 use borrow.Author.Needs.{needs}

@@ -11,7 +11,7 @@ returns : tie.Need-returns
 returns c = let s = c .before .before .before .before .before .before .before .before .before .before .before .before .before .before .before .before in
     let a = s .args in
     channel-applied (a .w) (a .n) (now (a .words)) (now (a .coeffs)) (s .pre .0) (λ j. c .before .before .before .before .before .before .before .before .before .before .before .before .before .before .before .slice-known .given j .fits) Local (a .q) 0 (a .channel) _ (s .pre .2)
-    (sym (c .before .before .before .before .before .before .before .before .before .before .before .before .has-qubit .ensures) ∙ c .before .before .before .before .before .before .before .before .before .before .before .if1 .taken) (c .before .before .before .before .before .before .before .before .before .before .channel-action .ensures) (c .before .before .before .before .before .before .apply-backward-channel .ensures)
+    (sym (c .before .before .before .before .before .before .before .before .before .before .before .before .has-qubit .ensures) ∙ c .before .before .before .before .before .before .before .before .before .before .before .if1 .taken) (c .before .before .before .before .before .before .before .before .before .before .channel-action .ensures) (c .before .before .before .before .before .before .apply-backward-channel .ensures .0)
 
 returns-2 : tie.Need-returns-2
 returns-2 c = let a = c .before .before .before .before .before .args in skipped (a .w) (a .n) (now (a .words)) (now (a .coeffs)) _ _ (sym (c .before .has-qubit .ensures) ∙ c .if1 .left)

@@ -3,7 +3,7 @@ use mathlib.Core.Path.{sym, _∙_, ap}
 use mathlib.Core.Bool.{Bool, cond}
 use mathlib.Core.List.{[], _∷_}
 use denote.Ref.{now}
-use Rattle.turns.specs.Ops.{onWords}
+use Rattle.ops.specs.Ops.{onWords}
 use Rattle.turns.proofs.ApplyLaws.{skipped, gate-applied}
 use borrow.Author.Needs.{needs}
 use Rattle.turns.proofs.apply.apply_gate.Statement.{statement}

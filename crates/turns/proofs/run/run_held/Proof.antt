@@ -1,7 +1,7 @@
 -- `run_held` meets its contract: the start, the turns and the end follow one another. Assumes nothing.
 use mathlib.Core.Path.{_∙_}
 use denote.Ref.{now}
-use Rattle.turns.specs.OpList.{opList}
+use Rattle.ops.specs.OpList.{opList}
 use Rattle.turns.proofs.StartLaws.{given-low, start-untouched}
 use Rattle.turns.proofs.RunLaws.{tells-ready, tells-then, run-ends}
 use Rattle.turns.proofs.run.run_held.Statement.{statement}

@@ -5,11 +5,11 @@ use native.Mathlib.Omega.{arith}
 use lib.ListN.{length}
 use denote.Ref.{now}
 use Rattle.words.specs.declared.Gate.the-variants.{Id}
-use Rattle.turns.specs.declared.Op.the-variants.{Native}
-use Rattle.turns.specs.Turn.{Stage, State}
-use Rattle.turns.specs.OpList.{opList}
+use Rattle.ops.specs.declared.Op.the-variants.{Native}
+use Rattle.dynamics.specs.Turn.{Stage, State}
+use Rattle.ops.specs.OpList.{opList}
 use Rattle.turns.specs.Told.{stageIn, Tells}
-use Rattle.turns.proofs.OpListLaws.{op-list-length, op-counted, op-listed}
+use Rattle.ops.proofs.OpListLaws.{op-list-length, op-counted, op-listed}
 use Rattle.turns.proofs.RunLaws.{from, from-end, tells-start, tells-ready, tells-slack, countable, loop-turn}
 use borrow.Author.Needs.{needs}
 use Rattle.turns.proofs.run.run_rows.Statement.{statement}

@@ -14,7 +14,7 @@ start-z-requires c κs = let s = c .before .before .before .before .before .befo
 returns : tie.Need-returns
 returns c = let s = c .before .before .before .before .before .before .before .before .before .before .before .before .before .before .before .before .before .before .before in
     let a = s .args in
-    lines-tell (a .w) (a .limits) (now (a .keys)) (now (a .weights)) (a .start) (s .pre .0) (s .pre .1) _ (c .before .before .before .before .before .before .before .before .before .before .before .before .start .given .1) (λ j. c .before .before .before .before .before .before .before .before .before .before .before .before .before .before .before .shared-slice-known .given j .fits) (c .begun .ensures) (c .before .before .before .before .before .before .before .weighted-sum .ensures)
+    lines-tell (a .w) (a .limits) (now (a .keys)) (now (a .weights)) (a .start) (s .pre .0) (s .pre .1) _ (c .before .before .before .before .before .before .before .before .before .before .before .before .start .given .1) (λ j. c .before .before .before .before .before .before .before .before .before .before .before .before .before .before .before .shared-slice-known .given j .fits) (c .begun .ensures) (c .before .before .before .before .before .before .before .weighted-sum .ensures .0)
 
 returns-2 : tie.Need-returns-2
 returns-2 c = let s = c .before .before .before .before .before .before .before .before .before .before .before .before .before .before .before .before in

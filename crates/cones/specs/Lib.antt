@@ -1,0 +1,2 @@
+pub mod LightCone
+pub mod Wide

@@ -1,0 +1,4 @@
+pub mod Acts
+pub mod Turn
+pub mod Runs
+pub mod Outcome
