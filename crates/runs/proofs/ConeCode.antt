@@ -30,7 +30,7 @@ use Rattle.dynamics.specs.Outcome.{observed}
 use Rattle.ops.specs.LineTable.{taskIn}
 use Rattle.ops.specs.OpList.{opList}
 use Rattle.turns.specs.SumRuns.{SumRan}
-use Rattle.runs.specs.ConeRuns.{ConeRan}
+use Rattle.runs.specs.ConeRuns.{Slices, ConeRan}
 use Rattle.ops.proofs.CoverLaws.{cone-is}
 use Rattle.cones.proofs.Demand.{one-line, targets-within}
 use Rattle.ops.proofs.SizeLaws.{sizes-say}
@@ -85,8 +85,9 @@ module _ (qubits : ℕ) (l : Limits) (keys : List ℕ) (weights : List Float) (o
       first-marks k (one-line t (q .1)) (targets-below t (sizes-say t (q .0) .qubits) (r .0))
 
 pub cone-ran : (qubits : ℕ) (l : Limits) (keys : List ℕ) (weights : List Float) (k : ℕ) (codes : List ℕ) (reals : List Float) (n : ℕ) {r : Ending} {ws ws′ : List ℕ} {cs cs′ : List Float} {ix ix′ : List ℕ}
-    → SumRan qubits l keys weights k codes reals n (setMarks (lettersIn (widthOf qubits) keys) (opList n codes reals)) r ws ws′ cs cs′ ix ix′ → ConeRan qubits l keys weights k codes reals n r ws ws′ cs cs′ ix ix′
-cone-ran qubits l keys weights k codes reals n {r} {ws} {ws′} {cs} {cs′} {ix} {ix′} R = record {
+    → Slices weights reals l → SumRan qubits l keys weights k codes reals n (setMarks (lettersIn (widthOf qubits) keys) (opList n codes reals)) r ws ws′ cs cs′ ix ix′ → ConeRan qubits l keys weights k codes reals n r ws ws′ cs cs′ ix ix′
+cone-ran qubits l keys weights k codes reals n {r} {ws} {ws′} {cs} {cs′} {ix} {ix′} S R = record {
   always = R;
+  slices = S;
   cone = λ h. subst (λ (ms : List Bool). SumRan qubits l keys weights k codes reals n ms r ws ws′ cs cs′ ix ix′) (cone-code qubits l keys weights (opList n codes reals) k h) R;
 }

@@ -1,1 +1,2 @@
 pub mod ConeRuns
+pub mod RunsCone

@@ -1,8 +1,8 @@
 // The runs of a sum that make their own marks.
 ghost use Rattle.ops.specs.OpList.{opList};
-ghost use Rattle.ops.specs.Marks.{markAll, markPath};
+ghost use Rattle.ops.specs.Marks.{markPath};
 ghost use Rattle.turns.specs.SumRuns.{SumRan};
-ghost use Rattle.runs.specs.ConeRuns.{ConeRan, WideRan};
+ghost use Rattle.runs.specs.ConeRuns.{FullRan, ConeRan, WideRan};
 use ops::Limits;
 use ops::marks::full_marks;
 use ops::marks::inverse_light_cone;
@@ -26,7 +26,7 @@ pub fn run_spd_weighted_observable_with(
     coeffs: &mut [f64],
     index: &mut [u32],
 ) -> Ending
-    ensures { λ r. ⌜ SumRan qubits limits (now (keys .entry)) (now (weights .entry)) lines (now (codes .entry)) (now (reals .entry)) n (markAll (opList n (now (codes .entry)) (now (reals .entry)))) r
+    ensures { λ r. ⌜ FullRan qubits limits (now (keys .entry)) (now (weights .entry)) lines (now (codes .entry)) (now (reals .entry)) n r
         (now (words .entry)) (now (words .exit)) (now (coeffs .entry)) (now (coeffs .exit)) (now (index .entry)) (now (index .exit)) ⌝ }
 {
     let mut marks = [false; 4096];

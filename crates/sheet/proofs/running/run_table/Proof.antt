@@ -14,7 +14,7 @@ use Rattle.sheet.proofs.running.run_table.Statement.{statement}
 use Rattle.sheet.proofs.running.run_table.Tie as tie
 
 returns : tie.Need-returns
-returns c = let a = c .before .before .before .before .before .before .before .before .before .before .before .before .before .before .before .before .before .before .before .before .before .args in marked-ended (a .head) (now (a .keys)) (now (a .weights)) (now (a .codes)) (now (a .reals)) (now (a .words)) (now (a .coeffs)) (now (a .means)) (now (a .index)) (c .before .before .before .before .before .before .before .before .before .before .before .before .before .before .before .before .before .before .before .before .before .pre) _ (c .before .before .before .before .before .before .before .before .before .before .before .before .limits-of .ensures) _ (c .before .before .before .before .before .before .run-spd-weighted-observable-with .ensures) Full (c .before .before .before .before .before .before .before .before .before .before .enum-told .given .1) refl refl
+returns c = let a = c .before .before .before .before .before .before .before .before .before .before .before .before .before .before .before .before .before .before .before .before .before .args in marked-ended (a .head) (now (a .keys)) (now (a .weights)) (now (a .codes)) (now (a .reals)) (now (a .words)) (now (a .coeffs)) (now (a .means)) (now (a .index)) (c .before .before .before .before .before .before .before .before .before .before .before .before .before .before .before .before .before .before .before .before .before .pre) _ (c .before .before .before .before .before .before .before .before .before .before .before .before .limits-of .ensures) _ (c .before .before .before .before .before .before .run-spd-weighted-observable-with .ensures .ran) Full (c .before .before .before .before .before .before .before .before .before .before .enum-told .given .1) refl refl
 
 returns-2 : tie.Need-returns-2
 returns-2 c = let a = c .before .before .before .before .before .before .before .before .before .before .before .before .before .before .before .before .before .before .before .before .before .args in cone-ended (a .head) (now (a .keys)) (now (a .weights)) (now (a .codes)) (now (a .reals)) (now (a .words)) (now (a .coeffs)) (now (a .means)) (now (a .index)) (c .before .before .before .before .before .before .before .before .before .before .before .before .before .before .before .before .before .before .before .before .before .pre) _ (c .before .before .before .before .before .before .before .before .before .before .before .before .limits-of .ensures) (c .before .before .before .before .before .before .run-spd-observable-light-cone .ensures) (c .before .before .before .before .before .before .before .before .before .before .enum-told2 .given .1)
