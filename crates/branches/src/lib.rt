@@ -11,7 +11,7 @@ pub mod start;
 use terms::Axis;
 
 // What is looked for from a row.
-#[derive(Drop)]
+#[derive(Clone, Copy)]
 pub(crate) enum Sought {
     // A row with the same key.
     Same,
@@ -22,7 +22,7 @@ pub(crate) enum Sought {
 }
 
 // What a rotation does at a row.
-#[derive(Drop)]
+#[derive(Clone, Copy)]
 pub(crate) enum Mate {
     // Nothing: the row is not met, or its partner is before it, and the pair is done there.
     Done,

@@ -10,7 +10,7 @@ use libc::{STDERR_FILENO, STDOUT_FILENO};
 use sheet::screen::bench_text;
 
 // So many bytes were read, and the text for them has so many bytes; or a read failed.
-#[derive(Drop)]
+#[derive(Clone, Copy)]
 pub enum Told {
     Text(usize, usize),
     Unread,

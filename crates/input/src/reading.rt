@@ -6,7 +6,7 @@ use libc::STDIN_FILENO;
 
 // What a read tells of the input, when so many bytes of the buffer are filled: it goes on at a place, it is in the buffer as far as the buffer
 // takes it, or the read failed.
-#[derive(Drop)]
+#[derive(Clone, Copy)]
 pub enum Next {
     More(usize),
     Whole(usize),
@@ -14,7 +14,7 @@ pub enum Next {
 }
 
 // What the buffer holds of the input: its bytes, to its end or as many as the buffer takes; or nothing that counts, since a read failed.
-#[derive(Drop)]
+#[derive(Clone, Copy)]
 pub enum Input {
     Bytes(usize),
     Failed,

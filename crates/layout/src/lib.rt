@@ -3,7 +3,7 @@
 use ops::Run;
 
 // The values of the lines `qubits` to `terms`, and `ops`.
-#[derive(Drop)]
+#[derive(Clone, Copy)]
 pub struct Head {
     pub qubits: usize,
     pub run: Run,
@@ -15,7 +15,7 @@ pub struct Head {
 }
 
 // What a line of a sheet should be.
-#[derive(Drop)]
+#[derive(Clone, Copy)]
 pub enum Kind {
     AQubits,
     ARun,

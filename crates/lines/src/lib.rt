@@ -4,14 +4,14 @@ use ops::{Op, Run};
 use words::Gate;
 
 // The run that a line names, or none.
-#[derive(Drop)]
+#[derive(Clone, Copy)]
 pub enum RunRead {
     IsRun(Run),
     NotRun,
 }
 
 // The name of an op. The native gates go by the number of their targets.
-#[derive(Drop)]
+#[derive(Clone, Copy)]
 pub enum Name {
     OneTarget(Gate),
     TwoTargets(Gate),
@@ -30,7 +30,7 @@ pub enum Name {
 }
 
 // The op that a line names, or none.
-#[derive(Drop)]
+#[derive(Clone, Copy)]
 pub enum OpRead {
     IsOp(Op),
     NotOp,

@@ -12,14 +12,14 @@ use text::{Read, Real};
 use words::Gate;
 
 // The targets that were read, or none. One target has 0 beside it.
-#[derive(Drop)]
+#[derive(Clone, Copy)]
 pub(crate) enum Targets {
     Pair(usize, usize),
     NotTargets,
 }
 
 // The reals that were read, or none. Those that the name does not ask for are 0.
-#[derive(Drop)]
+#[derive(Clone, Copy)]
 pub(crate) enum Reals {
     Triple(f64, f64, f64),
     NotReals,

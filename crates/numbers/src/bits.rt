@@ -37,7 +37,7 @@ pub fn printed_bits(x: f64) -> u64
 }
 
 // A finite number taken apart: digits * 2 ^ power of the smallest values, 2 ^ -1074.
-#[derive(Drop)]
+#[derive(Clone, Copy)]
 pub(crate) struct Parts {
     pub(crate) minus: bool,
     pub(crate) digits: u64,

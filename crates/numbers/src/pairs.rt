@@ -26,7 +26,7 @@ pub fn is_mix(px: f64, py: f64, pz: f64) -> bool
 }
 
 // A number of two limbs: high * 2^62 + low.
-#[derive(Drop)]
+#[derive(Clone, Copy)]
 struct Wide {
     high: u64,
     low: u64,

@@ -25,7 +25,7 @@ pub fn sqrt(x: f64) -> f64
 }
 
 // A number that is shifted up until it has 53 binary digits.
-#[derive(Drop)]
+#[derive(Clone, Copy)]
 struct Shifted {
     digits: u64,
     by: u64,
@@ -70,7 +70,7 @@ fn nearest_root(lead: u64, half: u64) -> f64
 }
 
 // A whole root, and what it leaves of its number.
-#[derive(Drop)]
+#[derive(Clone, Copy)]
 struct Root {
     root: u64,
     rest: u64,

@@ -7,7 +7,7 @@ pub mod targets;
 use words::Gate;
 
 // An op of a sheet. A native gate with one target has 0 for the second; rotations have their sine and cosine, channels their rates.
-#[derive(Drop)]
+#[derive(Clone, Copy)]
 pub enum Op {
     Native(Gate, usize, usize),
     T(usize),
@@ -25,7 +25,7 @@ pub enum Op {
 }
 
 // The sheet's epsilon, max_terms and limit.
-#[derive(Drop)]
+#[derive(Clone, Copy)]
 pub struct Limits {
     pub epsilon: f64,
     pub max_terms: usize,
@@ -33,7 +33,7 @@ pub struct Limits {
 }
 
 // The runs by their names on a sheet.
-#[derive(Drop)]
+#[derive(Clone, Copy)]
 pub enum Run {
     Full,
     Cone,

@@ -13,7 +13,7 @@ use words::gates::has_two_targets;
 use words::keys::get_bit;
 
 // The targets of an op: none, one or two.
-#[derive(Drop)]
+#[derive(Clone, Copy)]
 pub enum Targets {
     Nothing,
     One(usize),

@@ -10,7 +10,7 @@ use choice::smaller;
 use words::Gate;
 
 // The numbers and reals of an op.
-#[derive(Drop)]
+#[derive(Clone, Copy)]
 pub(crate) struct Parts {
     pub code: usize,
     pub a: usize,

@@ -6,7 +6,7 @@ ghost use Rattle.published.specs.Complex.{coeff_of};
 use words::letters::y_parity;
 
 // A complex coefficient.
-#[derive(Drop)]
+#[derive(Clone, Copy)]
 pub struct Complex64 {
     pub re: f64,
     pub im: f64,

@@ -1,7 +1,7 @@
 // The reply to a sheet, and its text.
 
 // What a sheet is answered. `means` is how many mean places hold a Z mean: as many as qubits for `all`, else 0.
-#[derive(Drop)]
+#[derive(Clone, Copy)]
 pub struct Reply {
     pub status: u8,
     pub line: usize,

@@ -2,7 +2,7 @@
 
 // The questions that are put to the whole of a sheet's values, one before the next, by the numbers that refuse it. 5 and 6 are put together, line
 // by line (`faults`).
-#[derive(Drop)]
+#[derive(Clone, Copy)]
 pub enum Asked {
     Two,
     Three,
@@ -11,7 +11,7 @@ pub enum Asked {
 }
 
 // The number of the first question that fails and the line, or none.
-#[derive(Drop)]
+#[derive(Clone, Copy)]
 pub enum Verdict {
     RefusedAt(u8, usize),
     Passed,

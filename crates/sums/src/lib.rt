@@ -5,7 +5,7 @@ pub mod mean;
 pub mod truncate;
 
 // What truncation leaves: how many terms, and the sum of the sizes dropped.
-#[derive(Drop)]
+#[derive(Clone, Copy)]
 pub struct Kept {
     pub count: usize,
     pub dropped: f64,

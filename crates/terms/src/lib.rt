@@ -3,21 +3,21 @@ pub mod channels;
 pub mod number;
 
 // What a search over rows finds.
-#[derive(Drop)]
+#[derive(Clone, Copy)]
 pub enum Found {
     At(usize),
     Nothing,
 }
 
 // A rotation's targets: rz, p, t and tdg have one, rzz has two.
-#[derive(Drop)]
+#[derive(Clone, Copy)]
 pub enum Axis {
     Z(usize),
     Zz(usize, usize),
 }
 
 // The six noise channels, with their rates.
-#[derive(Drop)]
+#[derive(Clone, Copy)]
 pub enum NoiseChannel {
     // px, py, pz
     Pauli(f64, f64, f64),
@@ -30,14 +30,14 @@ pub enum NoiseChannel {
 }
 
 // Whether a channel acts by the letter at one target, or on two targets alike.
-#[derive(Drop)]
+#[derive(Clone, Copy)]
 pub enum ChannelKind {
     Local,
     Depolarizing2q,
 }
 
 // A channel's kind, its multipliers for X, Y and Z (for two targets each is the same), and what of Z goes to the identity.
-#[derive(Drop)]
+#[derive(Clone, Copy)]
 pub struct ChannelAction {
     pub kind: ChannelKind,
     pub lambda: [f64; 3],

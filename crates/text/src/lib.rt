@@ -1,14 +1,14 @@
 // Texts as bytes: their parts, and the numbers that they spell.
 
 // A number that was read, or none.
-#[derive(Drop)]
+#[derive(Clone, Copy)]
 pub enum Read {
     Number(usize),
     Bad,
 }
 
 // A real number that was read, or none.
-#[derive(Drop)]
+#[derive(Clone, Copy)]
 pub enum Real {
     Value(f64),
     NotReal,

@@ -17,7 +17,7 @@ use crate::{Ending, Start, Tally};
 use ops::Limits;
 
 // The totals so far, or the refusal of one line.
-#[derive(Drop)]
+#[derive(Clone, Copy)]
 pub(crate) enum Folded {
     Ended(u8),
     Held(f64, Tally),

@@ -1,7 +1,7 @@
 // One turn of a run, a run of a sum under any marks with its fold, and the runs of all qubits.
 
 // The greatest number of terms so far, the discarded weight, and how many terms the ops met, summed.
-#[derive(Drop)]
+#[derive(Clone, Copy)]
 pub struct Tally {
     pub peak: usize,
     pub discarded: f64,
@@ -9,14 +9,14 @@ pub struct Tally {
 }
 
 // How far a run has come: the number of terms and the tally, or the number of the question that refused it.
-#[derive(Drop)]
+#[derive(Clone, Copy)]
 pub enum Turned {
     Going(usize, Tally),
     Refused(u8),
 }
 
 // How a run ends: the mean, the number of terms left and the tally, or the number of the question that refused it.
-#[derive(Drop)]
+#[derive(Clone, Copy)]
 pub enum Ending {
     Done(f64, usize, Tally),
     Failed(u8),
@@ -24,7 +24,7 @@ pub enum Ending {
 
 // What a run starts from, in a table of keys and weights: its first lines merged, one line alone at weight 1, or Z at one qubit, whose peak
 // and discarded weight go on from an earlier run's. Each counts from 0 the terms that its ops meet.
-#[derive(Drop)]
+#[derive(Clone, Copy)]
 pub enum Start {
     Lines(usize),
     Alone(usize),

@@ -11,7 +11,7 @@ use crate::{Tally, Turned, apply};
 use ops::{Limits, Op};
 
 // The number of terms and the tally, after a drop.
-#[derive(Drop)]
+#[derive(Clone, Copy)]
 pub(crate) struct Left {
     pub count: usize,
     pub tally: Tally,

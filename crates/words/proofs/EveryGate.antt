@@ -48,7 +48,7 @@ at_gate p t g =
     let t₈ = and_snd (p Sx) _ t₇ in
     let t₉ = and_snd (p Sxdg) _ t₈ in
     let t₁₀ = and_snd (p Cx) _ t₉ in
-    elim g [
+    elim g as (λ (g : Gate). T (p g)) [
       | Id ↦ and_fst (p Id) _ t
       | X ↦ and_fst (p X) _ t₁
       | Y ↦ and_fst (p Y) _ t₂

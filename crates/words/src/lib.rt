@@ -5,7 +5,7 @@ pub mod letters;
 pub mod rows;
 
 // The native Clifford gates. Cx has its control first.
-#[derive(Drop)]
+#[derive(Clone, Copy)]
 pub enum Gate {
     Id,
     X,
@@ -22,7 +22,7 @@ pub enum Gate {
 }
 
 // The x and z bits of a word at the two targets a and b of a gate, of which the contracts speak.
-#[derive(Drop)]
+#[derive(Clone, Copy)]
 pub struct Bits {
     pub xa: bool,
     pub za: bool,

@@ -1,4 +1,3 @@
--- `numbers::bits::parts_of` meets its contract: the digits and the power are the fields of the bits.
 use Prim.Native.Nat.{ℕ, suc, ◌+◌, ◌-◌, ◌/◌, ◌%◌, ◌≤◌, ◌^◌, ◌<◌}
 use mathlib.Core.Path.{◌≡◌}
 use native.Mathlib.Nat.{le-add_right}
@@ -10,12 +9,12 @@ use borrow.Author.Rules.{rules}
 use Rattle.numbers.proofs.bits.parts_of.Statement.{statement}
 use Rattle.numbers.proofs.bits.parts_of.Tie as tie
 
-returns : tie.Need-returns
-returns c =
+returns-then-field-eq0 : tie.Need-returns-then-field-eq0
+returns-then-field-eq0 c =
     let at = c.before in
     let x = at.args.x in
     let b = to_bits binary64 x in record {
-      value = low_value x (holds at.well-formed.0.1) at.requires c.if1.true;
+      value = low_value x (holds at.well_formed.0.1) at.requires c.if-field-eq0.true;
       digits = small b;
       power = omega arith;
       lead = λ h. omega arith;
@@ -24,15 +23,15 @@ returns c =
     small : (b : ℕ) → b % 2 ^ 52 < 2 ^ 53
     small b = omega arith
 
-returns-2 : tie.Need-returns-2
-returns-2 c =
+returns-else-field-eq0 : tie.Need-returns-else-field-eq0
+returns-else-field-eq0 c =
     let at = c.before in
     let x = at.args.x in
     let b = to_bits binary64 x in
-    let held = holds at.well-formed.0.1 in
+    let held = holds at.well_formed.0.1 in
     let f = b % 2 ^ 63 / 2 ^ 52 in
     let f_lt : f < 2047 = field_lt x held at.requires in
-    let f_is : f ≡ suc (f - 1) = pred f c.if1.false in record {
+    let f_is : f ≡ suc (f - 1) = pred f c.if-field-eq0.false in record {
       value = normal_value x held at.requires (f - 1) f_is;
       digits = small b;
       power = less f f_lt;
@@ -48,5 +47,5 @@ returns-2 c =
     small : (b : ℕ) → 2 ^ 52 + b % 2 ^ 52 < 2 ^ 53
     small b = omega arith
 
-pub parts-of-spec : {M : Type 1} → statement M
-parts-of-spec = tie.close (tie.spec (λ c. finite_no_nan c.args.x c.requires) (λ c. search rules) (λ c. search rules) returns returns-2)
+pub parts_of_spec : {M : Type 1} → statement M
+parts_of_spec = tie.close (tie.spec (λ c. finite_no_nan c.args.x c.requires) (λ c. search rules) (λ c. search rules) returns-then-field-eq0 returns-else-field-eq0)

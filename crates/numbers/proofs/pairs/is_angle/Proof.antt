@@ -1,4 +1,3 @@
--- `numbers::pairs::is_angle` meets its contract: the test does not tell the cuts from the held ones.
 use mathlib.Core.Path.{ap₂, ◌∙◌}
 use Prim.Native.Nat.{ℕ}
 use Rattle.numbers.specs.Angle.{cut_of, on_circle}
@@ -7,12 +6,12 @@ use borrow.Author.Rules.{rules}
 use Rattle.numbers.proofs.pairs.is_angle.Statement.{statement}
 use Rattle.numbers.proofs.pairs.is_angle.Tie as tie
 
-pub is-angle-spec : {M : Type 1} → statement M
-is-angle-spec =
+pub is_angle_spec : {M : Type 1} → statement M
+is_angle_spec =
     tie.close
     (tie.spec
     (λ c κs. search rules) (λ c κs. search rules) (λ c κs. search rules)
     (λ c. let at = c.before.before.before in
-    c.on-circle.ensures
-    ∙ ap₂ (λ (a b : ℕ). on_circle a b) c.before.before.cut.ensures c.before.cut2.ensures
+    c.on_circle.ensures
+    ∙ ap₂ (λ (a b : ℕ). on_circle a b) c.before.before.cut-a.ensures c.before.cut-b.ensures
     ∙ circle_held (cut_of at.args.sine).size (cut_of at.args.cosine).size))

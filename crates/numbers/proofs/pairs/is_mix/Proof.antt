@@ -1,4 +1,3 @@
--- `numbers::pairs::is_mix` meets its contract: the test does not tell the cuts from the held ones.
 use mathlib.Core.Path.{sym, ◌∙◌}
 use Rattle.numbers.specs.Angle.{cut_of}
 use Rattle.numbers.proofs.CutLaws.{mix_held}
@@ -6,11 +5,11 @@ use borrow.Author.Rules.{rules}
 use Rattle.numbers.proofs.pairs.is_mix.Statement.{statement}
 use Rattle.numbers.proofs.pairs.is_mix.Tie as tie
 
-pub is-mix-spec : {M : Type 1} → statement M
-is-mix-spec =
+pub is_mix_spec : {M : Type 1} → statement M
+is_mix_spec =
     tie.close
     (tie.spec
     (λ c κs. search rules) (λ c κs. search rules) (λ c κs. search rules) (λ c. search rules) (λ c. search rules)
     (λ c. let at = c.before.before.before in
-    rw (c.before.before.cut.ensures, c.before.cut2.ensures, c.cut3.ensures)
+    rw (c.before.before.cut-x.ensures, c.before.cut-y.ensures, c.cut-z.ensures)
     (mix_held (cut_of at.args.px).size (cut_of at.args.py).size (cut_of at.args.pz).size)))

@@ -1,4 +1,3 @@
--- `numbers::pairs::squares` meets its contract: no product or sum of limbs wraps, and they come to the sum of squares.
 use native.Mathlib.Omega.{arith}
 use Prim.Native.Nat.{ℕ, ◌+◌, ◌*◌, ◌/◌, ◌%◌, ◌^◌, ◌≤◌}
 use Rattle.numbers.specs.Angle.{most}
@@ -26,8 +25,8 @@ small a b h = record {
   bl = low_le b h.1;
 }
 
-pub squares-spec : {M : Type 1} → statement M
-squares-spec =
+pub squares_spec : {M : Type 1} → statement M
+squares_spec =
     tie.close
     (tie.spec
     (λ c. let k = small c.args.a c.args.b c.requires in omega arith) (λ c. let k = small c.args.a c.args.b c.requires in omega arith)

@@ -1,5 +1,3 @@
--- `clifford_conjugation_phase` meets its contract: in each arm the gate is the arm's, and what the arm gives is what `conj_phase` has for it.
--- Assumes nothing.
 use borrow.Author.Rules.{rules}
 use mathlib.Core.Path.{◌∙◌}
 use mathlib.Core.Bool.{◌&&◌}
@@ -10,8 +8,8 @@ use Rattle.words.proofs.BitNumbers.{both_bits, xor_bits}
 use Rattle.words.proofs.gates.clifford_conjugation_phase.Statement.{statement}
 use Rattle.words.proofs.gates.clifford_conjugation_phase.Tie as tie
 
-pub clifford-conjugation-phase-spec : {M : Type 1} → statement M
-clifford-conjugation-phase-spec =
+pub clifford_conjugation_phase_spec : {M : Type 1} → statement M
+clifford_conjugation_phase_spec =
     tie.close
     (tie.spec
     (λ c. search rules)
@@ -26,18 +24,18 @@ clifford-conjugation-phase-spec =
     (λ c. search rules) (λ c κs. search rules) (λ c κs. search rules)
     (λ c. search rules) (λ c κs. search rules) (λ c κs. search rules) (λ c κs. search rules)
     (λ c. search rules) (λ c κs. search rules) (λ c κs. search rules)
-    (λ c. let a = c.before.before.before.args in arm conj_phase (bits_at a.w a.a a.b a.key.now) c.enum_told.given.1)
-    (λ c. let a = c.before.before.before.before.before.before.args in let p = bit_at a.key.now a.a in let q = bit_at a.key.now (z_at a.w a.a) in
-    c.turns-when.ensures (p && q) (both_bits p q c.before.before.x_of.ensures c.before.z_of.ensures) ∙ arm conj_phase (bits_at a.w a.a a.b a.key.now) c.before.before.before.enum-told2.given.1)
-    (λ c. let a = c.before.before.before.before.before.args in c.turns-when2.ensures (bit_at a.key.now a.a) c.before.x-of2.ensures ∙ arm conj_phase (bits_at a.w a.a a.b a.key.now) c.before.before.enum-told3.given.1)
-    (λ c. let a = c.before.before.before.before.before.args in c.turns-when3.ensures (bit_at a.key.now a.a) c.before.x-of3.ensures ∙ arm conj_phase (bits_at a.w a.a a.b a.key.now) c.before.before.enum-told4.given.1)
-    (λ c. let a = c.before.before.before.before.before.args in c.turns-when4.ensures (bit_at a.key.now (z_at a.w a.a)) c.before.z-of2.ensures ∙ arm conj_phase (bits_at a.w a.a a.b a.key.now) c.before.before.enum-told5.given.1)
-    (λ c. let a = c.before.before.before.before.before.args in c.turns-when5.ensures (bit_at a.key.now (z_at a.w a.a)) c.before.z-of3.ensures ∙ arm conj_phase (bits_at a.w a.a a.b a.key.now) c.before.before.enum-told6.given.1)
-    (λ c. let a = c.before.before.before.before.before.before.args in let p = bit_at a.key.now a.a in let q = bit_at a.key.now a.b in
-    c.turns-when6.ensures (p && q) (both_bits p q c.before.before.x-of4.ensures c.before.x-of5.ensures) ∙ arm conj_phase (bits_at a.w a.a a.b a.key.now) c.before.before.before.enum-told7.given.1)
-    (λ c. let a = c.before.before.before.args in arm conj_phase (bits_at a.w a.a a.b a.key.now) c.enum-told8.given.1)
-    (λ c. let a = c.before.before.before.args in arm conj_phase (bits_at a.w a.a a.b a.key.now) c.enum-told9.given.1)
-    (λ c. let a = c.before.before.before.before.before.args in c.turns-when7.ensures (bit_at a.key.now (z_at a.w a.a)) c.before.z-of4.ensures ∙ arm conj_phase (bits_at a.w a.a a.b a.key.now) c.before.before.enum-told10.given.1)
-    (λ c. let a = c.before.before.before.before.before.before.args in let p = bit_at a.key.now a.a in let q = bit_at a.key.now (z_at a.w a.a) in
-    c.turns-when8.ensures (p ⊕ q) (xor_bits p q c.before.before.x-of6.ensures c.before.z-of5.ensures) ∙ arm conj_phase (bits_at a.w a.a a.b a.key.now) c.before.before.before.enum-told11.given.1)
-    (λ c. let a = c.before.before.before.before.before.args in c.turns-when9.ensures (bit_at a.key.now a.a) c.before.x-of7.ensures ∙ arm conj_phase (bits_at a.w a.a a.b a.key.now) c.before.before.enum-told12.given.1))
+    (λ c. let a = c.before.before.args in arm conj_phase (bits_at a.w a.a a.b a.key.now) c.in-Cx.is)
+    (λ c. let a = c.before.before.before.before.before.args in let p = bit_at a.key.now a.a in let q = bit_at a.key.now (z_at a.w a.a) in
+    c.turns_when.ensures (p && q) (both_bits p q c.before.before.x_of.ensures c.before.z_of.ensures) ∙ arm conj_phase (bits_at a.w a.a a.b a.key.now) c.before.before.before.in-H.is)
+    (λ c. let a = c.before.before.before.before.args in c.turns_when-in-S.ensures (bit_at a.key.now a.a) c.before.x_of-in-S.ensures ∙ arm conj_phase (bits_at a.w a.a a.b a.key.now) c.before.before.in-S.is)
+    (λ c. let a = c.before.before.before.before.args in c.turns_when-in-Sdg.ensures (bit_at a.key.now a.a) c.before.x_of-in-Sdg.ensures ∙ arm conj_phase (bits_at a.w a.a a.b a.key.now) c.before.before.in-Sdg.is)
+    (λ c. let a = c.before.before.before.before.args in c.turns_when-in-Sx.ensures (bit_at a.key.now (z_at a.w a.a)) c.before.z_of-in-Sx.ensures ∙ arm conj_phase (bits_at a.w a.a a.b a.key.now) c.before.before.in-Sx.is)
+    (λ c. let a = c.before.before.before.before.args in c.turns_when-in-Sxdg.ensures (bit_at a.key.now (z_at a.w a.a)) c.before.z_of-in-Sxdg.ensures ∙ arm conj_phase (bits_at a.w a.a a.b a.key.now) c.before.before.in-Sxdg.is)
+    (λ c. let a = c.before.before.before.before.before.args in let p = bit_at a.key.now a.a in let q = bit_at a.key.now a.b in
+    c.turns_when-in-Cz.ensures (p && q) (both_bits p q c.before.before.x_of-in-Cz.ensures c.before.x_of-in-Cz-2.ensures) ∙ arm conj_phase (bits_at a.w a.a a.b a.key.now) c.before.before.before.in-Cz.is)
+    (λ c. let a = c.before.before.args in arm conj_phase (bits_at a.w a.a a.b a.key.now) c.in-Swap.is)
+    (λ c. let a = c.before.before.args in arm conj_phase (bits_at a.w a.a a.b a.key.now) c.in-Id.is)
+    (λ c. let a = c.before.before.before.before.args in c.turns_when-in-X.ensures (bit_at a.key.now (z_at a.w a.a)) c.before.z_of-in-X.ensures ∙ arm conj_phase (bits_at a.w a.a a.b a.key.now) c.before.before.in-X.is)
+    (λ c. let a = c.before.before.before.before.before.args in let p = bit_at a.key.now a.a in let q = bit_at a.key.now (z_at a.w a.a) in
+    c.turns_when-in-Y.ensures (p ⊕ q) (xor_bits p q c.before.before.x_of-in-Y.ensures c.before.z_of-in-Y.ensures) ∙ arm conj_phase (bits_at a.w a.a a.b a.key.now) c.before.before.before.in-Y.is)
+    (λ c. let a = c.before.before.before.before.args in c.turns_when-in-Z.ensures (bit_at a.key.now a.a) c.before.x_of-in-Z.ensures ∙ arm conj_phase (bits_at a.w a.a a.b a.key.now) c.before.before.in-Z.is))

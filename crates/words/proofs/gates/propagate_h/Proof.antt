@@ -1,4 +1,3 @@
--- `propagate_h` meets its contract: both flips are made where the two bits differ. Assumes nothing.
 use borrow.Author.Rules.{rules}
 use mathlib.Core.Path.{ap, ◌∙◌}
 use Rattle.words.specs.Keys.{◌⊕◌, bit_at, z_at}
@@ -10,12 +9,12 @@ use Rattle.words.proofs.gates.propagate_h.Tie as tie
 returns : tie.Need-returns
 returns c =
     let f = c.before.before.before.before.before.before in
-    let r = f.before.before.before.before in
-    let a = r.before.before.before.args in
+    let r = f.before.before.before in
+    let a = r.before.before.args in
     let x = bit_at a.key.now a.a in
     let z = bit_at a.key.now (z_at a.w a.a) in
-    let e = xor_bits x z r.x_of.ensures f.before.before.z_of.ensures in
-    c.before.before.flip-z.ensures (x ⊕ z) e ∙ ap (flip_when (x ⊕ z) (z_at a.w a.a)) (f.flip-x.ensures (x ⊕ z) e)
+    let e = xor_bits x z r.x_of-x.ensures f.before.before.z_of-z.ensures in
+    c.before.before.flip_z.ensures (x ⊕ z) e ∙ ap (flip_when (x ⊕ z) (z_at a.w a.a)) (f.flip_x.ensures (x ⊕ z) e)
 
-pub propagate-h-spec : {M : Type 1} → statement M
-propagate-h-spec = tie.close (tie.spec (λ c κs. search rules) (λ c κs. search rules) (λ c κs. search rules) (λ c κs. search rules) (λ c. search rules) returns)
+pub propagate_h_spec : {M : Type 1} → statement M
+propagate_h_spec = tie.close (tie.spec (λ c κs. search rules) (λ c κs. search rules) (λ c κs. search rules) (λ c κs. search rules) (λ c. search rules) returns)

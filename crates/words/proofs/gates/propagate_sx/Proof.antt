@@ -1,4 +1,3 @@
--- `propagate_sx` meets its contract: its flip is made where the bit read is set. Assumes nothing.
 use borrow.Author.Rules.{rules}
 use Rattle.words.specs.Keys.{bit_at, z_at}
 use Rattle.words.proofs.gates.propagate_sx.Statement.{statement}
@@ -7,8 +6,8 @@ use Rattle.words.proofs.gates.propagate_sx.Tie as tie
 returns : tie.Need-returns
 returns c =
     let r = c.before.before.before.before in
-    let a = r.before.before.before.args in
-    c.before.before.flip-x.ensures (bit_at a.key.now (z_at a.w a.a)) r.z_of.ensures
+    let a = r.before.before.args in
+    c.before.before.flip_x.ensures (bit_at a.key.now (z_at a.w a.a)) r.z_of-z.ensures
 
-pub propagate-sx-spec : {M : Type 1} → statement M
-propagate-sx-spec = tie.close (tie.spec (λ c κs. search rules) (λ c κs. search rules) (λ c. search rules) returns)
+pub propagate_sx_spec : {M : Type 1} → statement M
+propagate_sx_spec = tie.close (tie.spec (λ c κs. search rules) (λ c κs. search rules) (λ c. search rules) returns)

@@ -1,4 +1,3 @@
--- `word_bit` meets its contract. Assumes nothing.
 use Prim.Native.Nat.{◌/◌, ◌%◌, ◌^◌}
 use native.Mathlib.Omega.{arith}
 use borrow.Author.Rules.{rules}
@@ -11,5 +10,5 @@ returns : tie.Need-returns
 unfolding bit_of
 returns c = digit (c.args.word / 2 ^ (c.args.i % 64) % 2) (omega arith)
 
-pub word-bit-spec : {M : Type 1} → statement M
-word-bit-spec = tie.close (tie.spec (λ c. search rules) returns)
+pub word_bit_spec : {M : Type 1} → statement M
+word_bit_spec = tie.close (tie.spec (λ c. search rules) returns)

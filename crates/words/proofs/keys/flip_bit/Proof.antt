@@ -1,4 +1,3 @@
--- `words::flip_bit` meets its contract: past the end, and at the word and the bit that the definition names. Assumes nothing.
 use borrow.Author.Rules.{rules}
 use mathlib.Core.Path.{sym}
 use native.Mathlib.Omega.{arith}
@@ -6,8 +5,8 @@ use Rattle.words.proofs.Place.{flip_place, flip_past}
 use Rattle.words.proofs.keys.flip_bit.Statement.{statement}
 use Rattle.words.proofs.keys.flip_bit.Tie as tie
 
-pub flip-bit-spec : {M : Type 1} → statement M
-flip-bit-spec =
+pub flip_bit_spec : {M : Type 1} → statement M
+flip_bit_spec =
     tie.close
     (tie.spec
     (λ c. let a = c.before.args in sym (flip_past a.words.now a.base a.i (omega arith)))

@@ -1,4 +1,3 @@
--- `words::get_bit` meets its contract: past the end, and at the word and the bit that the definition names. Assumes nothing.
 use borrow.Author.Rules.{rules}
 use mathlib.Core.Path.{sym}
 use native.Mathlib.Omega.{arith}
@@ -6,8 +5,8 @@ use Rattle.words.proofs.Place.{bit_place, bit_past}
 use Rattle.words.proofs.keys.get_bit.Statement.{statement}
 use Rattle.words.proofs.keys.get_bit.Tie as tie
 
-pub get-bit-spec : {M : Type 1} → statement M
-get-bit-spec =
+pub get_bit_spec : {M : Type 1} → statement M
+get_bit_spec =
     tie.close
     (tie.spec
     (λ c. let a = c.before.args in sym (bit_past a.words.now a.base a.i (omega arith)))

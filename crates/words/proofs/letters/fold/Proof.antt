@@ -1,4 +1,3 @@
--- `fold` meets its contract. Assumes nothing.
 use mathlib.Core.Path.{ap}
 use lib.Bits.{bit_xor}
 use native.Mathlib.Omega.{arith}
@@ -9,5 +8,5 @@ use Rattle.words.proofs.letters.fold.Tie as tie
 returns : tie.Need-returns
 returns c = ap (bit_xor c.args.folded) (common_word c.args.x c.args.z (omega arith))
 
-pub fold-spec : {M : Type 1} → statement M
-fold-spec = tie.close (tie.spec returns)
+pub fold_spec : {M : Type 1} → statement M
+fold_spec = tie.close (tie.spec returns)

@@ -1,4 +1,3 @@
--- `fold_word` meets its contract. Assumes nothing.
 use borrow.Author.Rules.{rules}
 use Rattle.words.proofs.OnesLaws.{fold_turn}
 use Rattle.words.proofs.letters.fold_word.Statement.{statement}
@@ -9,5 +8,5 @@ returns c =
     let s = c.before.before.before.before in
     fold_turn s.args.w s.args.j s.args.key.now s.args.folded s.requires.1 c.fold.ensures
 
-pub fold-word-spec : {M : Type 1} → statement M
-fold-word-spec = tie.close (tie.spec (λ c. search rules) (λ c. search rules) (λ c. search rules) (λ c. search rules) (λ c. search rules) (λ c κs. search rules) returns)
+pub fold_word_spec : {M : Type 1} → statement M
+fold_word_spec = tie.close (tie.spec (λ c. search rules) (λ c. search rules) (λ c. search rules) (λ c. search rules) (λ c. search rules) (λ c κs. search rules) returns)

@@ -1,4 +1,3 @@
--- `words::rows_of` meets its contract. Assumes nothing.
 use borrow.Author.Rules.{rules}
 use Prim.Native.Nat.{ℕ, ◌*◌, ◌/◌}
 use mathlib.Core.Path.{sym, ap, ◌∙◌}
@@ -7,10 +6,10 @@ use Rattle.words.proofs.RowSteps.{no_rows}
 use Rattle.words.proofs.rows.rows_of.Statement.{statement}
 use Rattle.words.proofs.rows.rows_of.Tie as tie
 
-pub rows-of-spec : {M : Type 1} → statement M
-rows-of-spec =
+pub rows_of_spec : {M : Type 1} → statement M
+rows_of_spec =
     tie.close
     (tie.spec
-    (λ c. let n = c.before.args.n in sym (ap (λ (w : ℕ). n / (2 * w)) c.if1.true ∙ div-zero n))
-    (λ c. let a = c.before.before.args in sym (no_rows a.n a.w c.if2.true)) (λ c. search rules) (λ c. search rules)
+    (λ c. let n = c.before.args.n in sym (ap (λ (w : ℕ). n / (2 * w)) c.if-w-eq0.true ∙ div-zero n))
+    (λ c. let a = c.before.before.args in sym (no_rows a.n a.w c.if-n-w.true)) (λ c. search rules) (λ c. search rules)
     (λ c. search rules))
