@@ -116,6 +116,39 @@ def arguments(text, start):
     return found
 
 
+def aligned(args, goals):
+    """Which of the older arguments answer the goals, in order: what is left out is a bare search, and κs goes with what a call requires."""
+    trivial = [bool(re.fullmatch(r"\(λ c( κs)?\. search rules\)", a)) for a in args]
+    calls = [bool(re.match(r"\(λ \w+ κs\.", a)) if a.startswith("(") else None for a in args]
+
+    def fits(k, goal):
+        return calls[k] is None or calls[k] == goal.endswith("-requires") or bool(re.search(r"-requires(-|$)", goal)) == calls[k]
+
+    n, m = len(args), len(goals)
+    best = {(n, m): 0}
+    for k in reversed(range(n + 1)):
+        for g in reversed(range(m + 1)):
+            if (k, g) == (n, m):
+                continue
+            way = []
+            if k < n and trivial[k] and (k + 1, g) in best:
+                way.append((best[k + 1, g], 0))
+            if k < n and g < m and (k + 1, g + 1) in best and (n == m or fits(k, goals[g])):
+                way.append((best[k + 1, g + 1] + 1, 1))
+            if way:
+                best[k, g] = max(way)[0]
+    if (0, 0) not in best:
+        return None
+    chosen, k, g = [], 0, 0
+    while k < n:
+        if g < m and (k + 1, g + 1) in best and (n == m or fits(k, goals[g])) and best[k + 1, g + 1] + 1 == best[k, g]:
+            chosen.append(k)
+            k, g = k + 1, g + 1
+        else:
+            k += 1
+    return chosen
+
+
 def walked(body, root, place, names, said):
     """The text, in which root stands at the place, with each way up counted anew."""
     way = names.way(place)
@@ -151,6 +184,8 @@ def walked(body, root, place, names, said):
                 return m[1] + ".before" * count if count >= 0 else root + ".before" * alias[b[1]][1]
             return m[0]
         field, *rest = fields_of(m)
+        if field == "type_size" and "size-of" in names.steps:
+            field = "size_of"
         i, field, taken = names.up(way, field, rest, old + count)
         tail = "".join("." + f for f in rest[taken:])
         if i is None:
@@ -208,26 +243,37 @@ def turned(text, names, spec, said):
             root = "c" if "c" in words else root
             if root:
                 part = walked(part, root, names.at[goal], names, said)
+            if goal.startswith("shape_of-"):
+                part = part[: part.index("=") + 1] + " search rules\n\n"
             out.append(part)
             continue
         for m in re.finditer(r"\((\w+) : tie\.(" + WORD + r")[^()]*\)", part):
             if m[2] in names.parent:
                 part = walked(part, m[1], m[2], names, said)
                 break
-        m = re.search(r"tie\.spec(?=\s)", part)
+        m = re.search(r"(?:tie|[\w-]+-lts)\.spec(?=\s)", part)
         if m:
             spans = arguments(part, m.end())
-            skip = len(spans) - len(names.order)
-            if skip not in (0, 2 * len(names.loops), 2 * len(names.loops) + 1):
-                said.append("%d arguments for %d goals" % (len(spans), len(names.order)))
+            skip = 2 * len(names.loops) + (3 if "-lts." in m[0] else 0)
+            chosen = aligned([part[x:y] for x, y in spans[skip:]], names.order)
+            if chosen is None:
+                said.append("%d arguments for %d goals" % (len(spans) - skip, len(names.order)))
             else:
-                for (x, y), goal in reversed(list(zip(spans[skip:], names.order))):
-                    arg = part[x:y]
+                given = dict(zip(chosen, names.order))
+                for k in reversed(range(len(spans) - skip)):
+                    x, y = spans[skip + k]
+                    if k not in given:
+                        part = part[:x].rstrip(" ") + part[y:] if part[y : y + 1] in " \n)" else part
+                        continue
+                    arg, goal = part[x:y], given[k]
                     bound = re.match(r"\(λ ([^.]*)\.", arg)
                     if bound:
                         words = bound[1].split()
                         root = "c" if "c" in words else words[0]
-                        part = part[:x] + walked(arg, root, names.at[goal], names, said) + part[y:]
+                        new = walked(arg, root, names.at[goal], names, said)
+                        if goal.startswith("shape_of-"):
+                            new = "(λ c. search rules)"
+                        part = part[:x] + new + part[y:]
         out.append(part)
     return "".join(out)
 
@@ -237,14 +283,14 @@ def main():
     listed = json.load(open(os.path.join(folder, "names.json"), encoding="utf-8"))
     crate_name = os.path.basename(os.path.abspath(crate))
     for key, of in sorted(listed.items()):
-        m = re.fullmatch(r"Rattle-%s-proofs\.(.*)\.Lts" % crate_name, key)
+        m = re.fullmatch(r"Rattle-%s-proofs\.(.*)\.Lts(?:-\w+)?" % crate_name, key)
         if not m or "needs" not in of:
             continue
         path = os.path.join(crate, "proofs", *m[1].split("."), "Proof.antt")
         if not os.path.exists(path) or only and not any(o in path for o in only):
             continue
         text, said = open(path, encoding="utf-8").read(), []
-        to = turned(text, Names(of), m[1].split(".")[-1].lstrip("+") + "_spec", said)
+        to = turned(text, Names(of), m[1].split(".")[-1] + "_spec", said)
         if to != text:
             open(path, "w", encoding="utf-8").write(to)
         for it in said:

@@ -5,8 +5,7 @@ ghost use Rattle.words.specs.Letters.{ys_of};
 ghost use Rattle.terms.specs.Coefficient.{signed, negates, asks_word};
 ghost use Rattle.terms.specs.Term.{odd_y, conjugated};
 ghost use Rattle.terms.specs.Met.{gate_targets};
-ghost use Rattle.rows.specs.Rows.{term_at, terms_in, rows_in, met_in, put_key, put_coeff, Stepped};
-ghost use Rattle.sums.specs.Through.{Through};
+ghost use Rattle.rows.specs.Rows.{term_at, terms_in, rows_in, met_in, put_key, put_coeff, Stepped, Holds};
 
 use crate::loops;
 use numbers::signs::negated_if;
@@ -84,7 +83,8 @@ fn conjugate_rows(
     b: usize,
 )
     requires { n ≤ rows_in w words.old coeffs.old }
-    ensures { Through gate w n a b words.old words.new coeffs.old coeffs.new }
+    ensures { Holds (2 * w) n n (map (conjugated w gate a b) (terms_in (2 * w) n words.old coeffs.old))
+        words.old words.new coeffs.old coeffs.new }
 {
     let mut i = 0;
     while i < n {

@@ -1,9 +1,14 @@
 -- The sign that a gate gives a number is that of its quarter turns; and the sign of a flip is that of the sine. Assumes nothing.
-use Prim.Native.Nat.{ℕ, ◌+◌, ◌%◌}
+use Prim.Native.Nat.{ℕ, zero, suc, ◌+◌, ◌%◌, ◌<◌}
+use native.Mathlib.Nat.{mod-lt}
+use native.Mathlib.Omega.{arith}
 use mathlib.Core.Path.{◌≡◌, refl, ap, ◌∙◌}
 use mathlib.Core.Bool.{Bool, true, false, cond, ◌&&◌, beq}
-use lib.Dec.{ltb}
-use lib.Ieee.{Float, binary64, neg, mul}
+use mathlib.Core.List.{[], ◌∷◌}
+use lib.Dec.{ltb, eqb}
+use lib.ListN.{get_or}
+use lib.Pow.{pow_pos}
+use lib.Ieee.{Float, nan, binary64, neg, mul}
 use Rattle.numbers.proofs.SignLaws.{neg_neg, mul_neg}
 use Rattle.words.specs.Keys.{◌⊕◌}
 use Rattle.words.specs.declared.Bits as B
@@ -35,6 +40,15 @@ unmet_sign g s b h = phaseless g s b (unmet_phase g s h)
 -- a gate that asks for the word's parity needs it, and no other does
 pub asks : (g : Gate) (s : B.Bits) → negates g s true ⊕ negates g s false ≡ asks_word g && is_odd (conj_phase g s)
 asks g s = E.beq→eq _ _ (E.at_each (λ g s. beq (negates g s true ⊕ negates g s false) (asks_word g && is_odd (conj_phase g s))) tt g s)
+
+-- the sine with the sign of a parity, found by its place
+pub sine_at : (n : ℕ) (sin : Float) → get_or (sin ∷ neg sin ∷ []) (n % 2) nan ≡ signed (is_odd n) sin
+sine_at n sin = go (n % 2) (mod-lt n (pow_pos 1))
+  where
+    go : (r : ℕ) → r < 2 → get_or (sin ∷ neg sin ∷ []) r nan ≡ signed (eqb r 1) sin
+    go zero h = refl
+    go (suc zero) h = refl
+    go (suc (suc r)) h = absurd (omega arith)
 
 -- a flip by the sine with the sign of the word's parity
 pub flip_by_sine : (odd : Bool) (sin v : Float) → neg (mul binary64 v (signed odd sin)) ≡ flipped_of odd sin v

@@ -1,9 +1,8 @@
 // What is done to the one number of a term.
 ghost use Rattle.std.specs.Prelude.{◌≡◌};
 ghost use Rattle.words.specs.Letters.{is_odd};
-ghost use Rattle.terms.specs.Coefficient.{scaled_of, flipped_of, plus_of, asks_word};
+ghost use Rattle.terms.specs.Coefficient.{signed, scaled_of, flipped_of, plus_of, asks_word};
 
-use numbers::signs::negated_if;
 use words::Gate;
 
 // Times a real number.
@@ -19,11 +18,20 @@ pub fn plus(v: f64, u: f64) -> f64
     v + u
 }
 
+// The sine, negated where the Y letters of a word are odd in number. It is chosen by its place: a branch on the parity would often be
+// predicted wrongly.
+fn signed_sine(odd: usize, sin: f64) -> f64
+    ensures { result ≡ signed (is_odd odd) sin }
+{
+    let sines = [sin, -sin];
+    sines[odd % 2]
+}
+
 // The flip of a number, for a rotation's partner; `odd` is the number of Y letters of its word, or that modulo 2.
 pub fn flipped(v: f64, odd: usize, sin: f64) -> f64
     ensures { result ≡ flipped_of (is_odd odd) sin v }
 {
-    -(v * negated_if(sin, odd))
+    -(v * signed_sine(odd, sin))
 }
 
 // Whether a gate's sign takes the parity of the whole word.

@@ -1,4 +1,3 @@
--- `write_digits` meets its contract: the text by its last digit. Assumes nothing.
 use Prim.Native.Nat.{ℕ, ◌<◌}
 use mathlib.Core.Path.{◌∙◌}
 use native.Mathlib.Omega.{arith}
@@ -25,13 +24,13 @@ write-digits-at t = and 1 write-digits-kinds.ps (is 1 write-digits-kinds.ps μ-w
 abbrev write-digits-below : ℕ → In 1 write-digits-kinds.ps
 write-digits-below t = and 1 write-digits-kinds.ps (falls 1 write-digits-kinds.ps ◌<◌ μ-write-digits t) write-digits.Pre
 
-pub +write-digits-spec : {M : Type 1} → statement M
-+write-digits-spec = close μ-write-digits λ t. write-digits-lts.spec
+pub +write_digits_spec : {M : Type 1} → statement M
++write_digits_spec = close μ-write-digits λ t. write-digits-lts.spec
     (held_reads.Asked, held_reads.Learnt, write-byte-reads.Asked, write-byte-reads.Learnt, write-digits-below t, write-digits.Post)
     (write-digits-at t) write-digits.Post (λ c κs. search rules)
-    (λ c. let s = c.before.before.before.args in digits_none s.d s.n c.before.if1.true c.held.ensures)
-    (λ c. omega arith) (λ c. omega arith) (λ c κs. search rules) (λ c. c.before.before.write_byte.auto.0)
-    (λ c. let s = c.before.before.before.before.before.before.before.args in digits_one s.d s.n c.before.before.before.before.before.if1.false c.before.before.before.before.if2.true c.before.before.write_byte.ensures)
+    (λ c. let s = c.before.before.before.args in digits_none s.d s.n c.before.if-d-eq0.true c.held.ensures)
+    (λ c. omega arith) (λ c. omega arith) (λ c κs. search rules) (λ c. search rules)
+    (λ c. let s = c.before.before.before.before.before.before.before.args in digits_one s.d s.n c.before.before.before.before.before.if-d-eq0.false c.before.before.before.before.if-n-lt10.true c.before.before.write_byte.ensures)
     (λ c. omega arith) (λ c κs. omega arith) (λ c. omega arith) (λ c. omega arith) (λ c κs. search rules)
-    (λ c. c.before.before.write-byte2.auto.0 ∙ c.before.before.before.before.before.before.write-digits.auto.0)
-    (λ c. let s = c.before.before.before.before.before.before.before.before.before.before.before.args in digits_more s.d s.n c.before.before.before.before.before.before.before.before.before.if1.false c.before.before.before.before.before.before.before.before.if2.false c.before.before.before.before.before.before.write-digits.ensures c.before.before.write-byte2.ensures)
+    (λ c. search rules)
+    (λ c. let s = c.before.before.before.before.before.before.before.before.before.before.before.args in digits_more s.d s.n c.before.before.before.before.before.before.before.before.before.if-d-eq0.false c.before.before.before.before.before.before.before.before.if-n-lt10.false c.before.before.before.before.before.before.write_digits-place.ensures c.before.before.write_byte-2.ensures)

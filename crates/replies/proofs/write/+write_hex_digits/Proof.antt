@@ -1,4 +1,3 @@
--- `write_hex_digits` meets its contract: the text by its last digit. Assumes nothing.
 use Prim.Native.Nat.{ℕ, ◌<◌}
 use mathlib.Core.Path.{◌∙◌}
 use native.Mathlib.Omega.{arith}
@@ -26,11 +25,11 @@ write-hex-digits-at t = and 1 write-hex-digits-kinds.ps (is 1 write-hex-digits-k
 abbrev write-hex-digits-below : ℕ → In 1 write-hex-digits-kinds.ps
 write-hex-digits-below t = and 1 write-hex-digits-kinds.ps (falls 1 write-hex-digits-kinds.ps ◌<◌ μ-write-hex-digits t) write-hex-digits.Pre
 
-pub +write-hex-digits-spec : {M : Type 1} → statement M
-+write-hex-digits-spec = close μ-write-hex-digits λ t. write-hex-digits-lts.spec
+pub +write_hex_digits_spec : {M : Type 1} → statement M
++write_hex_digits_spec = close μ-write-hex-digits λ t. write-hex-digits-lts.spec
     (held_reads.Asked, held_reads.Learnt, write-hex-digits-below t, write-hex-digits.Post, hex-digit-reads.Asked, hex-digit-reads.Learnt, write-byte-reads.Asked, write-byte-reads.Learnt)
     (write-hex-digits-at t) write-hex-digits.Post (λ c κs. search rules)
-    (λ c. let s = c.before.before.before.args in hex_none s.d s.n c.before.if1.true c.held.ensures)
+    (λ c. let s = c.before.before.before.args in hex_none s.d s.n c.before.if-d-eq0.true c.held.ensures)
     (λ c. omega arith) (λ c κs. omega arith) (λ c κs. omega arith) (λ c κs. search rules)
-    (λ c. c.before.before.write_byte.auto.0 ∙ c.before.before.before.before.before.before.before.write-hex-digits.auto.0)
-    (λ c. let s = c.before.before.before.before.before.before.before.before.before.before.before.args in hex_more s.d s.n c.before.before.before.before.before.before.before.before.before.if1.false c.before.before.before.hex-digit.ensures c.before.before.before.before.before.before.before.write-hex-digits.ensures c.before.before.write_byte.ensures)
+    (λ c. search rules)
+    (λ c. let s = c.before.before.before.before.before.before.before.before.before.before.before.args in hex_more s.d s.n c.before.before.before.before.before.before.before.before.before.if-d-eq0.false c.before.before.before.hex_digit.ensures c.before.before.before.before.before.before.before.write_hex_digits-place.ensures c.before.before.write_byte.ensures)

@@ -1,4 +1,3 @@
--- `write_signed` meets its contract: the sign of a number below zero, and the size. Assumes nothing.
 use mathlib.Core.Path.{◌∙◌}
 use borrow.Author.Rules.{rules}
 use Rattle.replies.proofs.WriteLaws.{join, spelled}
@@ -6,24 +5,24 @@ use Rattle.replies.proofs.SignLaws.{text_minus, text_plus}
 use Rattle.replies.proofs.write.write_signed.Statement.{statement}
 use Rattle.replies.proofs.write.write_signed.Tie as tie
 
-returns : tie.Need-returns
-returns c =
+returns-then-n-lt0 : tie.Need-returns-then-n-lt0
+returns-then-n-lt0 c =
     let s = c.before.before.before.before.before.before.before.before.before.before.before in
     spelled
-    (text_minus s.args.n c.before.before.before.before.before.before.before.before.before.type_size.result s.ranges.n c.before.before.before.before.before.before.before.before.if1.true c.before.before.before.before.before.before.before.before.before.type_size.ensures)
-    (join c.before.before.before.before.before.before.write_byte.ensures c.before.before.write-decimal.ensures)
+    (text_minus s.args.n c.before.before.before.before.before.before.before.before.before.size_of-size.result s.ranges.n c.before.before.before.before.before.before.before.before.if-n-lt0.true c.before.before.before.before.before.before.before.before.before.size_of-size.ensures)
+    (join c.before.before.before.before.before.before.write_byte-place.ensures c.before.before.write_decimal.ensures)
 
-returns-2 : tie.Need-returns-2
-returns-2 c =
+returns : tie.Need-returns
+returns c =
     let s = c.before.before.before.before.before.before.before in
     spelled
-    (text_plus s.args.n c.before.before.before.before.before.type_size.result s.ranges.n c.before.before.before.before.if1.false c.before.before.before.before.before.type_size.ensures)
-    c.before.before.write-decimal2.ensures
+    (text_plus s.args.n c.before.before.before.before.before.size_of-size.result s.ranges.n c.before.before.before.before.if-n-lt0.false c.before.before.before.before.before.size_of-size.ensures)
+    c.before.before.write_decimal-2.ensures
 
-pub write-signed-spec : {M : Type 1} → statement M
-write-signed-spec =
+pub write_signed_spec : {M : Type 1} → statement M
+write_signed_spec =
     tie.close
     (tie.spec
     (λ c κs. search rules) (λ c κs. search rules) (λ c κs. search rules)
-    (λ c. c.before.before.write-decimal.auto.0 ∙ c.before.before.before.before.before.before.write_byte.auto.0)
-    returns (λ c κs. search rules) (λ c. c.before.before.write-decimal2.auto.0) returns-2)
+    (λ c. search rules)
+    returns-then-n-lt0 (λ c κs. search rules) (λ c. search rules) returns)

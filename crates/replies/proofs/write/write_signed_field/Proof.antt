@@ -1,4 +1,3 @@
--- `write_signed_field` meets its contract: the key, the value and the end of the line. Assumes nothing.
 use mathlib.Core.Path.{ap, ◌∙◌}
 use borrow.Author.Rules.{rules}
 use Rattle.replies.specs.Printed.{int_text}
@@ -7,10 +6,10 @@ use Rattle.replies.proofs.SignLaws.{as_held}
 use Rattle.replies.proofs.write.write_signed_field.Statement.{statement}
 use Rattle.replies.proofs.write.write_signed_field.Tie as tie
 
-pub write-signed-field-spec : {M : Type 1} → statement M
-write-signed-field-spec =
+pub write_signed_field_spec : {M : Type 1} → statement M
+write_signed_field_spec =
     tie.close
     (tie.spec
     (λ c κs. search rules) (λ c κs. search rules) (λ c κs. search rules)
-    (λ c. c.before.before.write_byte.auto.0 ∙ c.before.before.before.before.before.before.write-signed.auto.0 ∙ c.before.before.before.before.before.before.before.before.before.before.write-text.auto.0)
-    (λ c. join c.before.before.before.before.before.before.before.before.before.before.write-text.ensures (join (spelled (ap int_text (as_held c.before.before.before.before.before.before.before.before.before.before.before.before.before.before.args.n c.before.before.before.before.before.before.before.before.before.before.before.before.before.before.ranges.n)) c.before.before.before.before.before.before.write-signed.ensures) c.before.before.write_byte.ensures)))
+    (λ c. search rules)
+    (λ c. join c.before.before.before.before.before.before.before.before.before.before.write_text-a.ensures (join (spelled (ap int_text (as_held c.before.before.before.before.before.before.before.before.before.before.before.before.before.before.args.n c.before.before.before.before.before.before.before.before.before.before.before.before.before.before.ranges.n)) c.before.before.before.before.before.before.write_signed-b.ensures) c.before.before.write_byte.ensures)))

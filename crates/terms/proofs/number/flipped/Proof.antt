@@ -10,7 +10,7 @@ use Rattle.terms.proofs.number.flipped.Tie as tie
 returns : tie.Need-returns
 returns c =
     let a = c.before.args in
-    ap (λ (s : Float). neg (mul binary64 a.v s)) c.negated-if.ensures ∙ flip_by_sine (is_odd a.odd) a.sin a.v
+    ap (λ (s : Float). neg (mul binary64 a.v s)) c.signed-sine.ensures ∙ flip_by_sine (is_odd a.odd) a.sin a.v
 
 pub flipped-spec : {M : Type 1} → statement M
 flipped-spec = tie.close (tie.spec (λ c κs. search rules) returns)

@@ -1,4 +1,3 @@
--- `text::parts::part_before` meets its contract: the part ends where the first c stands.
 use mathlib.Core.Path.{sym}
 use lib.Seq.{length-take-le}
 use Rattle.text.proofs.PartLaws.{before_found, before_none}
@@ -6,9 +5,9 @@ use borrow.Author.Rules.{rules}
 use Rattle.text.proofs.parts.part_before.Statement.{statement}
 use Rattle.text.proofs.parts.part_before.Tie as tie
 
-pub part-before-spec : {M : Type 1} → statement M
-part-before-spec =
+pub part_before_spec : {M : Type 1} → statement M
+part_before_spec =
     tie.close
     (tie.spec
-    (λ c κs. search rules) (λ c. sym (length-take-le _ _ (search rules))) (λ c. before_found _ _ _ c.before.before.find.ensures)
-    (λ c. before_none _ _ _ c.before.find.ensures c.if1.false))
+    (λ c κs. search rules) (λ c. sym (length-take-le _ _ (search rules))) (λ c. before_found _ _ _ c.before.find-n.ensures)
+    (λ c. before_none _ _ _ c.before.find-n.ensures c.if-n-s.false))

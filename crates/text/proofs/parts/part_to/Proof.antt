@@ -1,4 +1,3 @@
--- `text::parts::part_to` meets its contract: no more than all is taken.
 use mathlib.Core.Path.{sym, refl}
 use native.Mathlib.Nat.{le_of_lt}
 use lib.Seq.{length-take-le, take_all}
@@ -6,5 +5,5 @@ use borrow.Author.Rules.{rules}
 use Rattle.text.proofs.parts.part_to.Statement.{statement}
 use Rattle.text.proofs.parts.part_to.Tie as tie
 
-pub part-to-spec : {M : Type 1} → statement M
-part-to-spec = tie.close (tie.spec (λ c. sym (length-take-le _ _ (search rules))) (λ c. refl) (λ c. sym (take_all _ _ (le_of_lt c.if1.false))))
+pub part_to_spec : {M : Type 1} → statement M
+part_to_spec = tie.close (tie.spec (λ c. sym (length-take-le _ _ (search rules))) (λ c. refl) (λ c. sym (take_all _ _ (le_of_lt c.if-n-s.false))))

@@ -1,4 +1,3 @@
--- `text::parts::starts_with` meets its contract: what is left to compare gives the same answer.
 use Prim.Native.Nat.{◌≤◌, ◌-◌}
 use mathlib.Core.Path.{◌≡◌, refl}
 use lib.ListN.{length, drop}
@@ -8,20 +7,20 @@ use borrow.Author.Rules.{rules}
 use Rattle.text.proofs.parts.starts_with.Statement.{statement}
 use Rattle.text.proofs.parts.starts_with.Tie as tie
 
-abbrev invariant-loop : tie.invariant-loop
-invariant-loop s k i₀ i = (i ≤ length k) × (length k ≤ length s) × (begins (drop i k) (drop i s) ≡ begins k s)
+abbrev invariant-loop-i : tie.invariant-loop-i
+invariant-loop-i s k i₀ i = (i ≤ length k) × (length k ≤ length s) × (begins (drop i k) (drop i s) ≡ begins k s)
 
-abbrev decreases-loop : tie.decreases-loop
-decreases-loop s k i₀ i = length k - i
+abbrev decreases-loop-i : tie.decreases-loop-i
+decreases-loop-i s k i₀ i = length k - i
 
-pub starts-with-spec : {M : Type 1} → statement M
-starts-with-spec =
+pub starts_with_spec : {M : Type 1} → statement M
+starts_with_spec =
     tie.close
     (tie.spec
-    invariant-loop decreases-loop (λ c. begins_short _ _ c.if1.true) (λ c. (search rules, search rules, refl)) (λ c. search rules) (λ c. search rules)
-    (λ c. let l = c.before.before.before.before.loop in
-    begins_stop _ _ l.i (search rules) l.invariant.2 (search rules) c.if2.true)
+    invariant-loop-i decreases-loop-i (λ c. begins_short _ _ c.if-s-k.true) (λ c. (search rules, search rules, refl)) (λ c. search rules) (λ c. search rules)
+    (λ c. let l = c.before.before.before.before.loop-i in
+    begins_stop _ _ l.i (search rules) l.invariant.2 (search rules) c.if-s-i.true)
     (λ c. search rules) (λ c. search rules)
-    (λ c. let l = c.before.before.before.before.loop in
-    (search rules, search rules, begins_next _ _ l.i (search rules) l.invariant.2 (search rules) c.if2.false))
-    (λ c. begins_end _ _ c.before.loop.i c.before.loop.invariant.2 (search rules)))
+    (λ c. let l = c.before.before.before.before.loop-i in
+    (search rules, search rules, begins_next _ _ l.i (search rules) l.invariant.2 (search rules) c.if-s-i.false))
+    (λ c. begins_end _ _ c.before.loop-i.i c.before.loop-i.invariant.2 (search rules)))
