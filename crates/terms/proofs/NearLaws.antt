@@ -51,7 +51,7 @@ module _ {A D : Type 0} {R : A → D → Type 0} where
       → S (foldl f b l) (foldl g c m)
   unfolding foldl
   each_fold S f g h q none = q
-  each_fold S f g h {b} {c} q (more {a} {d} p ps) = each_fold S f g h (h b c a d q p) ps
+  each_fold S f g h {b} {c} q (more {a} {d} p ps) = each_fold S f g h {b = f b a} {c = g c d} (h b c a d q p) ps
 
 module _ {A D : Type 0} (R : A → D → Type 0) where
   pub each_get_d : {l : List A} {m : List D} (i : ℕ) {a : A} {d : D} → Each R l m → R a d → R (get_or l i a) (get_or m i d)

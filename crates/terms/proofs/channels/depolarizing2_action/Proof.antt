@@ -1,8 +1,7 @@
--- `depolarizing2_action` meets its contract. Assumes nothing.
 use Rattle.terms.specs.Channel.{depol2_action}
 use Rattle.terms.proofs.channels.depolarizing2_action.Statement.{statement}
 use Rattle.terms.proofs.channels.depolarizing2_action.Tie as tie
 
-pub depolarizing2-action-spec : {M : Type 1} → statement M
+pub depolarizing2_action_spec : {M : Type 1} → statement M
 unfolding depol2_action
-depolarizing2-action-spec = tie.close (tie.spec (λ c. cc))
+depolarizing2_action_spec = tie.close (tie.spec (λ c. cc))

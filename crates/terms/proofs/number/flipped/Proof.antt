@@ -1,4 +1,3 @@
--- `flipped` meets its contract. Assumes nothing.
 use mathlib.Core.Path.{ap, ◌∙◌}
 use lib.Ieee.{Float, binary64, neg, mul}
 use borrow.Author.Rules.{rules}
@@ -10,7 +9,7 @@ use Rattle.terms.proofs.number.flipped.Tie as tie
 returns : tie.Need-returns
 returns c =
     let a = c.before.args in
-    ap (λ (s : Float). neg (mul binary64 a.v s)) c.signed-sine.ensures ∙ flip_by_sine (is_odd a.odd) a.sin a.v
+    ap (λ (s : Float). neg (mul binary64 a.v s)) c.signed_sine.ensures ∙ flip_by_sine (is_odd a.odd) a.sin a.v
 
-pub flipped-spec : {M : Type 1} → statement M
-flipped-spec = tie.close (tie.spec (λ c κs. search rules) returns)
+pub flipped_spec : {M : Type 1} → statement M
+flipped_spec = tie.close (tie.spec (λ c κs. search rules) returns)

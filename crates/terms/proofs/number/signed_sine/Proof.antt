@@ -1,4 +1,3 @@
--- `signed_sine` meets its contract. Assumes nothing.
 use native.Mathlib.Omega.{arith}
 use borrow.Author.Rules.{rules}
 use Rattle.terms.proofs.SignLaws.{sine_at}
@@ -8,5 +7,5 @@ use Rattle.terms.proofs.number.signed_sine.Tie as tie
 returns : tie.Need-returns
 returns c = sine_at c.args.odd c.args.sin
 
-pub signed-sine-spec : {M : Type 1} → statement M
-signed-sine-spec = tie.close (tie.spec (λ c. search rules) (λ c. omega arith) returns)
+pub signed_sine_spec : {M : Type 1} → statement M
+signed_sine_spec = tie.close (tie.spec (λ c. search rules) (λ c. omega arith) returns)
