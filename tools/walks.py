@@ -4,8 +4,8 @@
 usage: tools/walks.py NAMES CRATE [FUNCTION..]
 
 NAMES is the folder that `rt check --generated NAMES --old-names` wrote in the crate's folder CRATE. Goals, steps and places are turned by its list of old and
-new names, the way up to a step (`.before` ..) is counted anew, and the proof of a function f is f_spec. It rewrites proofs/ in place; a second run changes
-nothing. A line that begins 'look:' names what it did not find."""
+new names, the way up to a step (`.before` ..) is counted anew, and the proof of a function f is f_spec. It rewrites proofs/ in place, and is run
+once for a crate. A line that begins 'look:' names what it did not find."""
 import json
 import os
 import re
@@ -27,7 +27,8 @@ class Names:
     """The goals, steps and places of one function, old and new."""
 
     def __init__(self, of):
-        self.needs = {plain(old): new for old, new in of["needs"]}
+        self.needs = {plain(new): new for _, new in of["needs"]}
+        self.needs.update({plain(old): new for old, new in of["needs"]})
         self.order = [new for _, new in of["needs"]]
         self.at = {new: at[1] for (_, new), at in zip(of["needs"], of["asked_at"])}
         self.loops = [names for names, _ in of["loops"]]
@@ -275,7 +276,8 @@ def turned(text, names, spec, said):
                             new = "(λ c. search rules)"
                         part = part[:x] + new + part[y:]
         out.append(part)
-    return "".join(out)
+    # the test of a `!x` says of x itself that it is true or false
+    return re.sub(r"not[-_](?:true|false) (?:[^\s()]+|\([^()]*\)) ((?:" + WORD + r"\.)*" + r"if-not-" + WORD + r"\.(?:true|false))", r"\1", "".join(out))
 
 
 def main():

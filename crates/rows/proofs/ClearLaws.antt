@@ -13,7 +13,7 @@ use lib.Ieee.{Float}
 use borrow.Author.Tests.{lt-ltb, le-ltb, le-leb}
 use Rattle.numbers.specs.Constants.{zero64}
 use Rattle.terms.specs.Term.{Term}
-use Rattle.terms.proofs.CaseLaws.{lt_or_le, and_false}
+use Rattle.terms.proofs.CaseLaws.{lt_or_le, and-false}
 use Rattle.rows.specs.Rows.{rows_in, Holds, Stepped}
 use Rattle.rows.specs.Cleared.{filled, Cleared}
 use Rattle.rows.proofs.RowLaws.{row_before}
@@ -62,7 +62,7 @@ module _ (w from to : ℕ) (ws : List ℕ) (cs : List Float) where
   cleared_none h = cleared_by false (rw (le-ltb from to h)) refl refl
 
   pub cleared_past : {r : ℕ} → r ≡ rows_in w ws cs → r < to → Cleared w from to ws ws cs cs
-  cleared_past e h = cleared_by false (rw (room_no w to ws cs e h) (and_false (ltb from to))) refl refl
+  cleared_past e h = cleared_by false (rw (room_no w to ws cs e h) (and-false (ltb from to))) refl refl
 
   -- both cases in one: an empty range leaves all as it is
   pub cleared_is : {ws' : List ℕ} {cs' : List Float} → from ≤ to → to ≤ rows_in w ws cs → Cleared w from to ws ws' cs cs'

@@ -1,4 +1,3 @@
--- `count_two` meets its contract: the rows before i are counted. Assumes nothing.
 use Prim.Native.Nat.{◌-◌, ◌*◌, ◌≤◌}
 use mathlib.Core.Path.{◌≡◌, refl}
 use mathlib.Core.List.{[], ◌∷◌}
@@ -13,44 +12,44 @@ use Rattle.rows.proofs.LetterRows.{two_numbers, one_at_most, count_turn}
 use Rattle.rows.proofs.letters.count_two.Statement.{statement}
 use Rattle.rows.proofs.letters.count_two.Tie as tie
 
-abbrev invariant-loop : tie.invariant-loop
-invariant-loop words coeffs w n a b count₀ i₀ count i = (i ≤ n) × (count ≤ i) × (count ≡ met_terms w (a ∷ b ∷ []) (terms_in (2 * w) i words coeffs))
+abbrev invariant-loop-i : tie.invariant-loop-i
+invariant-loop-i words coeffs w n a b count₀ i₀ count i = (i ≤ n) × (count ≤ i) × (count ≡ met_terms w (a ∷ b ∷ []) (terms_in (2 * w) i words coeffs))
 
-abbrev decreases-loop : tie.decreases-loop
-decreases-loop words coeffs w n a b count₀ i₀ count i = n - i
+abbrev decreases-loop-i : tie.decreases-loop-i
+decreases-loop-i words coeffs w n a b count₀ i₀ count i = n - i
 
-loop-holds : tie.Need-loop-init invariant-loop decreases-loop
+loop-holds : tie.Need-loop-i-init invariant-loop-i decreases-loop-i
 unfolding tab foldl
 loop-holds c = (omega arith, omega arith, refl)
 
-letter-at-requires : tie.Need-letter-at-requires invariant-loop decreases-loop
-letter-at-requires c κs =
+letter_at-first-requires : tie.Need-letter_at-first-requires invariant-loop-i decreases-loop-i
+letter_at-first-requires c κs =
     let a = c.before.before.before.before.args in
-    ((row_room a.w c.before.loop.i a.words.now a.coeffs.now (omega (arith, c.before.before.before.before.requires.0, c.loop-test.true))).0, c.before.before.before.before.requires.1.0)
+    ((row_room a.w c.before.loop-i.i a.words.now a.coeffs.now (omega (arith, c.before.before.before.before.requires.0, c.loop-i-test.true))).0, c.before.before.before.before.requires.1.0)
 
-letter-at-requires-2 : tie.Need-letter-at-requires-2 invariant-loop decreases-loop
-letter-at-requires-2 c κs =
+letter_at-second-requires : tie.Need-letter_at-second-requires invariant-loop-i decreases-loop-i
+letter_at-second-requires c κs =
     let a = c.before.before.before.before.before.args in
-    ((row_room a.w c.before.before.loop.i a.words.now a.coeffs.now (omega (arith, c.before.before.before.before.before.requires.0, c.before.loop-test.true))).0, c.before.before.before.before.before.requires.1.1)
+    ((row_room a.w c.before.before.loop-i.i a.words.now a.coeffs.now (omega (arith, c.before.before.before.before.before.requires.0, c.before.loop-i-test.true))).0, c.before.before.before.before.before.requires.1.1)
 
-add-count : tie.Need-overflow-add-count invariant-loop decreases-loop
-add-count c =
+overflow_add-count : tie.Need-overflow_add-count invariant-loop-i decreases-loop-i
+overflow_add-count c =
     let a = c.before.before.before.before.before.before.args in
-    let v = one_at_most a.w (a.a ∷ a.b ∷ []) (key_at (2 * a.w) a.words.now c.before.before.before.loop.i) (two_numbers a.w a.a a.b (key_at (2 * a.w) a.words.now c.before.before.before.loop.i) c.before.letter_at.ensures c.letter-at2.ensures) in
+    let v = one_at_most a.w (a.a ∷ a.b ∷ []) (key_at (2 * a.w) a.words.now c.before.before.before.loop-i.i) (two_numbers a.w a.a a.b (key_at (2 * a.w) a.words.now c.before.before.before.loop-i.i) c.before.letter_at-first.ensures c.letter_at-second.ensures) in
     omega arith
 
-loop-again : tie.Need-loop-preserved invariant-loop decreases-loop
+loop-again : tie.Need-loop-i-preserved invariant-loop-i decreases-loop-i
 loop-again c =
     let a = c.before.before.before.before.before.before.args in
-    let l = c.before.before.before.loop in
-    let e = two_numbers a.w a.a a.b (key_at (2 * a.w) a.words.now c.before.before.before.loop.i) c.before.letter_at.ensures c.letter-at2.ensures in
-    let v = one_at_most a.w (a.a ∷ a.b ∷ []) (key_at (2 * a.w) a.words.now c.before.before.before.loop.i) e in
+    let l = c.before.before.before.loop-i in
+    let e = two_numbers a.w a.a a.b (key_at (2 * a.w) a.words.now c.before.before.before.loop-i.i) c.before.letter_at-first.ensures c.letter_at-second.ensures in
+    let v = one_at_most a.w (a.a ∷ a.b ∷ []) (key_at (2 * a.w) a.words.now c.before.before.before.loop-i.i) e in
     (omega arith, omega arith, count_turn a.w (a.a ∷ a.b ∷ []) l.i a.words.now a.coeffs.now l.invariant.2 e)
 
-returns : tie.Need-returns invariant-loop decreases-loop
-returns c = let e : c.before.loop.i ≡ c.before.before.before.before.args.n = omega arith in rw (← e) c.before.loop.invariant.2
+returns : tie.Need-returns invariant-loop-i decreases-loop-i
+returns c = let e : c.before.loop-i.i ≡ c.before.before.before.before.args.n = omega arith in rw (← e) c.before.loop-i.invariant.2
 
-pub count-two-spec : {M : Type 1} → statement M
-count-two-spec =
+pub count_two_spec : {M : Type 1} → statement M
+count_two_spec =
     tie.close
-    (tie.spec invariant-loop decreases-loop loop-holds letter-at-requires letter-at-requires-2 add-count (λ c. search rules) (λ c. search rules) loop-again returns)
+    (tie.spec invariant-loop-i decreases-loop-i loop-holds letter_at-first-requires letter_at-second-requires overflow_add-count (λ c. search rules) (λ c. search rules) loop-again returns)

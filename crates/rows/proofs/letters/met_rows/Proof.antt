@@ -1,4 +1,3 @@
--- `met_rows` meets its contract: no rows, no words for the targets, or the count of the rows. Assumes nothing.
 use mathlib.Core.Path.{◌≡◌, sym, ap, ◌∙◌}
 use mathlib.Core.Bool.{Bool, true}
 use mathlib.Core.List.{[], ◌∷◌}
@@ -22,42 +21,42 @@ rows s e h = room_yes s.args.w s.args.n s.args.words.now s.args.coeffs.now e h
 abbrev Met : tie.Start → Bool → ℕ
 Met s two = met_in s.args.w (one_or_two two s.args.a s.args.b) s.args.n s.args.words.now s.args.coeffs.now
 
-returns : tie.Need-returns
-returns c = let a = c.before.before.before.before.args in met_no_rows a.w a.n (one_or_two a.two a.a a.b) a.words.now a.coeffs.now (room_no a.w a.n a.words.now a.coeffs.now c.before.rows_in.ensures c.if1.true)
+returns-then-rows_in-n : tie.Need-returns-then-rows_in-n
+returns-then-rows_in-n c = let a = c.before.before.before.before.args in met_no_rows a.w a.n (one_or_two a.two a.a a.b) a.words.now a.coeffs.now (room_no a.w a.n a.words.now a.coeffs.now c.before.rows_in.ensures c.if-rows_in-n.true)
 
-returns-2 : tie.Need-returns-2
-returns-2 c =
+returns-then-not-has_targets : tie.Need-returns-then-not-has_targets
+returns-then-not-has_targets c =
     let a = c.before.before.before.before.before.before.args in
-    met_no_words a.w a.n (one_or_two a.two a.a a.b) a.words.now a.coeffs.now (rows c.before.before.before.before.before.before c.before.before.before.rows_in.ensures c.before.before.if1.false)
-    (sym c.before.has-targets.ensures ∙ not-true c.before.has-targets.result c.if2.true)
+    met_no_words a.w a.n (one_or_two a.two a.a a.b) a.words.now a.coeffs.now (rows c.before.before.before.before.before.before c.before.before.before.rows_in.ensures c.before.before.if-rows_in-n.false)
+    (sym c.before.has_targets.ensures ∙ c.if-not-has_targets.true)
 
-count-two-requires : tie.Need-count-two-requires
-count-two-requires c κs =
+count_two-requires : tie.Need-count_two-requires
+count_two-requires c κs =
     let a = c.before.before.before.before.before.before.before.args in
-    let t = words_two a.w a.a a.b a.two (sym c.before.before.has-targets.ensures ∙ not-false c.before.before.has-targets.result c.before.if2.false) c.if3.true in
-    (leb-true a.n _ (rows c.before.before.before.before.before.before.before c.before.before.before.before.rows_in.ensures c.before.before.before.if1.false), (t.0, t.1))
+    let t = words_two a.w a.a a.b a.two (sym c.before.before.has_targets.ensures ∙ c.before.if-not-has_targets.false) c.if-two.true in
+    (leb-true a.n _ (rows c.before.before.before.before.before.before.before c.before.before.before.before.rows_in.ensures c.before.before.before.if-rows_in-n.false), (t.0, t.1))
 
-returns-3 : tie.Need-returns-3
-returns-3 c =
+returns-then-two : tie.Need-returns-then-two
+returns-then-two c =
     let a = c.before.before.before.before.before.before.before.before.args in
-    let t = words_two a.w a.a a.b a.two (sym c.before.before.before.has-targets.ensures ∙ not-false c.before.before.before.has-targets.result c.before.before.if2.false) c.before.if3.true in
-    met_held a.w a.n (a.a ∷ a.b ∷ []) a.words.now a.coeffs.now (rows c.before.before.before.before.before.before.before.before c.before.before.before.before.before.rows_in.ensures c.before.before.before.before.if1.false) t.2 c.count-two.ensures
-    ∙ ap (Met c.before.before.before.before.before.before.before.before) (sym c.before.if3.true)
+    let t = words_two a.w a.a a.b a.two (sym c.before.before.before.has_targets.ensures ∙ c.before.before.if-not-has_targets.false) c.before.if-two.true in
+    met_held a.w a.n (a.a ∷ a.b ∷ []) a.words.now a.coeffs.now (rows c.before.before.before.before.before.before.before.before c.before.before.before.before.before.rows_in.ensures c.before.before.before.before.if-rows_in-n.false) t.2 c.count_two.ensures
+    ∙ ap (Met c.before.before.before.before.before.before.before.before) (sym c.before.if-two.true)
 
-count-one-requires : tie.Need-count-one-requires
-count-one-requires c κs =
+count_one-requires : tie.Need-count_one-requires
+count_one-requires c κs =
     let a = c.before.before.before.before.before.before.before.args in
-    let t = words_one a.w a.a a.b a.two (sym c.before.before.has-targets.ensures ∙ not-false c.before.before.has-targets.result c.before.if2.false) c.if3.false in
-    (leb-true a.n _ (rows c.before.before.before.before.before.before.before c.before.before.before.before.rows_in.ensures c.before.before.before.if1.false), t.0)
+    let t = words_one a.w a.a a.b a.two (sym c.before.before.has_targets.ensures ∙ c.before.if-not-has_targets.false) c.if-two.false in
+    (leb-true a.n _ (rows c.before.before.before.before.before.before.before c.before.before.before.before.rows_in.ensures c.before.before.before.if-rows_in-n.false), t.0)
 
-returns-4 : tie.Need-returns-4
-returns-4 c =
+returns : tie.Need-returns
+returns c =
     let a = c.before.before.before.before.before.before.before.before.args in
-    let t = words_one a.w a.a a.b a.two (sym c.before.before.before.has-targets.ensures ∙ not-false c.before.before.before.has-targets.result c.before.before.if2.false) c.before.if3.false in
-    met_held a.w a.n (a.a ∷ []) a.words.now a.coeffs.now (rows c.before.before.before.before.before.before.before.before c.before.before.before.before.before.rows_in.ensures c.before.before.before.before.if1.false) t.1 c.count-one.ensures
-    ∙ ap (Met c.before.before.before.before.before.before.before.before) (sym c.before.if3.false)
+    let t = words_one a.w a.a a.b a.two (sym c.before.before.before.has_targets.ensures ∙ c.before.before.if-not-has_targets.false) c.before.if-two.false in
+    met_held a.w a.n (a.a ∷ []) a.words.now a.coeffs.now (rows c.before.before.before.before.before.before.before.before c.before.before.before.before.before.rows_in.ensures c.before.before.before.before.if-rows_in-n.false) t.1 c.count_one.ensures
+    ∙ ap (Met c.before.before.before.before.before.before.before.before) (sym c.before.if-two.false)
 
-pub met-rows-spec : {M : Type 1} → statement M
-met-rows-spec =
+pub met_rows_spec : {M : Type 1} → statement M
+met_rows_spec =
     tie.close
-    (tie.spec (λ c κs. search rules) returns (λ c κs. search rules) returns-2 count-two-requires returns-3 count-one-requires returns-4)
+    (tie.spec (λ c κs. search rules) returns-then-rows_in-n (λ c κs. search rules) returns-then-not-has_targets count_two-requires returns-then-two count_one-requires returns)

@@ -7,23 +7,23 @@ use borrow.Author.Rules.{rules}
 use Rattle.rows.proofs.row.copy_words.Statement.{statement}
 use Rattle.rows.proofs.row.copy_words.Tie as tie
 
-abbrev invariant-loop : tie.invariant-loop
-invariant-loop words₀ size from to a b k₀ words k = (k ≤ size) × ((length words ≡ length words₀) × (words ≡ copied size words₀ from to k))
+abbrev invariant-loop-k : tie.invariant-loop-k
+invariant-loop-k words₀ size from to a b k₀ words k = (k ≤ size) × ((length words ≡ length words₀) × (words ≡ copied size words₀ from to k))
 
-abbrev decreases-loop : tie.decreases-loop
-decreases-loop words₀ size from to a b k₀ words k = size - k
+abbrev decreases-loop-k : tie.decreases-loop-k
+decreases-loop-k words₀ size from to a b k₀ words k = size - k
 
-pub copy-words-spec : {M : Type 1} → statement M
-copy-words-spec =
+pub copy_words_spec : {M : Type 1} → statement M
+copy_words_spec =
     tie.close
     (tie.spec
-    invariant-loop decreases-loop (λ c. omega arith) (λ c. search rules)
+    invariant-loop-k decreases-loop-k (λ c. omega arith) (λ c. search rules)
     (λ c. (omega arith, (refl, copied_zero c.args.size c.args.words.now c.args.from c.args.to))) (λ c. search rules)
     (λ c. search rules) (λ c. search rules) (λ c. search rules) (λ c. search rules) (λ c. search rules) (λ c. search rules) (λ c. search rules)
     (λ c. let s = c.before.before.before in
-    let l = c.before.before.loop in
-    (omega arith, (simp length-set l.invariant.1.0, rw l.invariant.1.1 (copied_suc _ _ _ _ s.requires.0 s.requires.1 s.requires.2 _ c.before.loop-test.true))))
+    let l = c.before.before.loop-k in
+    (omega arith, (simp length-set l.invariant.1.0, rw l.invariant.1.1 (copied_suc _ _ _ _ s.requires.0 s.requires.1 s.requires.2 _ c.before.loop-k-test.true))))
     (λ c. search rules)
     (λ c. let s = c.before.before in
-    let e : c.before.loop.k ≡ s.args.size = omega arith in
-    c.before.loop.invariant.1.1 ∙ ap (copied _ _ _ _) e ∙ copied_all _ _ _ _))
+    let e : c.before.loop-k.k ≡ s.args.size = omega arith in
+    c.before.loop-k.invariant.1.1 ∙ ap (copied _ _ _ _) e ∙ copied_all _ _ _ _))
