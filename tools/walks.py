@@ -15,6 +15,7 @@ WORD = r"[^\s(){}.;,@\"«»\[\]]+"
 TOKEN = re.compile(r"--[^\n]*|\.?" + WORD)
 FIELDS = {"good": "well_formed", "well-formed": "well_formed"}
 AT_START = {"args", "requires", "well_formed", "ranges", "utf8", "lifetimes"}
+OTHERWISE = {"type_size": "size_of"}
 # Below these a field is a name of the source.
 OF_SOURCE = {"args", "ranges", "new", "auto", "initial", "fn", "captures", "utf8", "result", "now", "old"}
 
@@ -44,6 +45,10 @@ class Names:
         for name, arm in zip(of["places_by_name"], of["arms"]):
             if arm:
                 self.arms[name] = (arm[0], arm[1], [(plain(old), tuple(path), new) for new, old, path in arm[2]])
+        # parameters that the older list numbers
+        self.fields = dict(FIELDS)
+        for old, new in of["args"]:
+            self.fields[re.split(r"[ .]+", old)[-1]] = re.split(r"[ .]+", new)[-1]
         self.words = {}
         for old, new in self.loops:
             for word in ("invariant", "decreases"):
@@ -51,8 +56,10 @@ class Names:
 
     def made(self, name):
         key = plain(name)
-        if key.startswith("Need-") and key[5:] in self.needs:
-            return "Need-" + self.needs[key[5:]]
+        if key.startswith("Need-"):
+            for goal in (key[5:], re.sub("^(overflow|nonzero)-", "", key[5:])):
+                if goal in self.needs:
+                    return "Need-" + self.needs[goal]
         return self.words.get(key) or self.places.get(key) or name
 
     def way(self, place):
@@ -185,8 +192,9 @@ def walked(body, root, place, names, said):
                 return m[1] + ".before" * count if count >= 0 else root + ".before" * alias[b[1]][1]
             return m[0]
         field, *rest = fields_of(m)
-        if field == "type_size" and "size-of" in names.steps:
-            field = "size_of"
+        if not names.steps.get(plain(field)):
+            # what the scripts before took for another name
+            field = next((f for f in (OTHERWISE.get(field, field), field.lower(), re.sub("_lem$", "", field)) if names.steps.get(plain(f))), field)
         i, field, taken = names.up(way, field, rest, old + count)
         tail = "".join("." + f for f in rest[taken:])
         if i is None:
@@ -219,7 +227,7 @@ def respelled(text, names, spec):
         if w[0] == ".":
             if re.search(r"(?<![\w.])tie$", before):
                 return "." + names.made(w[1:])
-            return "." + FIELDS.get(w[1:], w[1:])
+            return "." + names.fields.get(w[1:], w[1:])
         return own.get(w, w)
 
     lines = text.split("\n")

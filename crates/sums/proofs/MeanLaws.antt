@@ -16,7 +16,7 @@ use Rattle.terms.specs.Mean.{add_mean}
 use Rattle.terms.specs.Coefficient.{finite_of}
 use Rattle.terms.specs.Lists.{tab}
 use Rattle.terms.specs.Term.{Term, all_finite}
-use Rattle.terms.proofs.CaseLaws.{and_false}
+use Rattle.terms.proofs.CaseLaws.{and-false}
 use Rattle.words.specs.Rows.{key_at}
 use Rattle.rows.specs.Rows.{coeff_at, term_at, terms_in}
 use Rattle.sums.specs.Steps.{finite_rows}
@@ -27,7 +27,7 @@ zero_differ : (k : List ℕ) (l : ℕ) → (get_or k l 0 ≡ 0 → ⊥) → all_
 unfolding all_zero
 zero_differ [] l n = absurd (n refl)
 zero_differ (x ∷ k) zero n = rw (ne_eqb x 0 n)
-zero_differ (x ∷ k) (suc l) n = rw (zero_differ k l n) (and_false (eqb x 0))
+zero_differ (x ∷ k) (suc l) n = rw (zero_differ k l n) (and-false (eqb x 0))
 
 zero_all : (k : List ℕ) → ((l : ℕ) → l < length k → get_or k l 0 ≡ 0) → all_zero k ≡ true
 unfolding all_zero
@@ -88,7 +88,7 @@ missing_finite n cs h =
     let more : n ≡ m + 1 = omega arith in
     let past : length cs ≤ m = omega arith in
     finite_numbers n cs ∙ ap (λ (k : ℕ). numbers_finite k cs) more ∙ one_more_finite m cs
-    ∙ ap (λ (x : Float). numbers_finite m cs && is_finite x) (get_or-eq_default cs nan past) ∙ and_false (numbers_finite m cs)
+    ∙ ap (λ (x : Float). numbers_finite m cs && is_finite x) (get_or-eq_default cs nan past) ∙ and-false (numbers_finite m cs)
 
 same_finite : (n : ℕ) (f g : ℕ → Term) → ((i : ℕ) → (f i).coeff ≡ (g i).coeff) → all_finite (tab n f) ≡ all_finite (tab n g)
 unfolding all_finite tab

@@ -1,4 +1,3 @@
--- `full_marks` meets its contract: the marks from i on are set. Assumes nothing.
 use mathlib.Core.Path.{refl, sym, ap, ◌∙◌}
 use mathlib.Core.Bool.{Bool, true, false}
 use mathlib.Core.List.{List}
@@ -13,32 +12,32 @@ use Rattle.ops.proofs.MarkLaws.{Marked, marked_none, marked_turn, marked_all, al
 use Rattle.ops.proofs.marks.full_marks.Statement.{statement}
 use Rattle.ops.proofs.marks.full_marks.Tie as tie
 
-abbrev invariant-loop : tie.invariant-loop
-invariant-loop codes reals n marks₀ i₀ marks i = Marked (replicate i₀ true) i marks₀ marks
+abbrev invariant-loop-i : tie.invariant-loop-i
+invariant-loop-i codes reals n marks₀ i₀ marks i = Marked (replicate i₀ true) i marks₀ marks
 
-abbrev decreases-loop : tie.decreases-loop
-decreases-loop codes reals n marks₀ i₀ marks i = i
+abbrev decreases-loop-i : tie.decreases-loop-i
+decreases-loop-i codes reals n marks₀ i₀ marks i = i
 
-loop-holds : tie.Need-loop-init invariant-loop decreases-loop
-loop-holds c = let i = c.op-count.result in marked_none (replicate i true) i _ (sym (length-replicate i true))
+loop-holds : tie.Need-loop-i-init invariant-loop-i decreases-loop-i
+loop-holds c = let i = c.op_count-i.result in marked_none (replicate i true) i _ (sym (length-replicate i true))
 
-loop-again : tie.Need-loop-preserved invariant-loop decreases-loop
-loop-again c = let l = c.before.before.before.before.before.loop in
-    let i = c.before.before.before.before.before.before.op-count.result in
+loop-again : tie.Need-loop-i-preserved invariant-loop-i decreases-loop-i
+loop-again c = let l = c.before.before.before.before.before.loop-i in
+    let i = c.before.before.before.before.before.before.op_count-i.result in
     let w = l.invariant.within in
-    marked_turn l.invariant (l.i - 1) true _ c.before.before.before.before.loop-test.true refl (sym (get_or-replicate i (l.i - 1) true false (omega (arith, length-replicate i true)))) c.before.before.put-mark.ensures
+    marked_turn l.invariant (l.i - 1) true _ c.before.before.before.before.loop-i-test.true refl (sym (get_or-replicate i (l.i - 1) true false (omega (arith, length-replicate i true)))) c.before.before.put_mark.ensures
 
-same_length : tie.Need-same-length invariant-loop decreases-loop
-same_length c = c.before.loop.invariant.long
+shape_of-marks : tie.Need-shape_of-marks invariant-loop-i decreases-loop-i
+shape_of-marks c = search rules
 
-returns : tie.Need-returns invariant-loop decreases-loop
+returns : tie.Need-returns invariant-loop-i decreases-loop-i
 returns c = let a = c.before.before.before.before.before.before.args in
-    let m = op_counted a.n a.codes.now a.reals.now c.before.before.op-count.ensures in
-    marked_all c.before.loop.invariant c.loop-test.false ∙ ap (λ (l : List Bool). overlay l a.marks.now) (ap (λ (k : ℕ). replicate k true) m ∙ all_marks (op_list a.n a.codes.now a.reals.now))
+    let m = op_counted a.n a.codes.now a.reals.now c.before.before.op_count-i.ensures in
+    marked_all c.before.loop-i.invariant c.loop-i-test.false ∙ ap (λ (l : List Bool). overlay l a.marks.now) (ap (λ (k : ℕ). replicate k true) m ∙ all_marks (op_list a.n a.codes.now a.reals.now))
 
-pub full-marks-spec : {M : Type 1} → statement M
-full-marks-spec =
+pub full_marks_spec : {M : Type 1} → statement M
+full_marks_spec =
     tie.close
     (tie.spec
-    invariant-loop decreases-loop (λ c κs. search rules) loop-holds (λ c. search rules) (λ c κs. search rules) (λ c. search rules) loop-again same_length
+    invariant-loop-i decreases-loop-i (λ c κs. search rules) loop-holds (λ c. search rules) (λ c κs. search rules) (λ c. search rules) loop-again shape_of-marks
     returns)

@@ -1,4 +1,3 @@
--- `inverse_light_cone` meets its contract. Assumes nothing.
 use mathlib.Core.Path.{ap, ◌∙◌}
 use mathlib.Core.Bool.{Bool}
 use mathlib.Core.List.{List}
@@ -12,9 +11,9 @@ use Rattle.ops.proofs.marks.inverse_light_cone.Tie as tie
 returns : tie.Need-returns
 returns c = let a = c.before.before.before.before.before.before.before.before.before.args in
     let ops = op_list a.n a.codes.now a.reals.now in
-    cone_marked a.w a.key.now ops (c.before.before.cone-from.ensures ∙ ap (λ (s : List Bool). overlay (set_marks s ops) a.marks.now) c.before.before.before.before.letters-in.ensures)
+    cone_marked a.w a.key.now ops (c.before.before.cone_from.ensures ∙ ap (λ (s : List Bool). overlay (set_marks s ops) a.marks.now) c.before.before.before.before.letters_in.ensures)
 
-pub inverse-light-cone-spec : {M : Type 1} → statement M
-inverse-light-cone-spec =
+pub inverse_light_cone_spec : {M : Type 1} → statement M
+inverse_light_cone_spec =
     tie.close
     (tie.spec (λ c κs. search rules) (λ c κs. search rules) (λ c. search rules) returns)

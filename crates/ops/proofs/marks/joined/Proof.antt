@@ -1,21 +1,20 @@
--- `joined` meets its contract: one law for each number of targets. Assumes nothing.
 use Rattle.ops.proofs.MarkLaws.{join_none, join_one, join_two}
 use borrow.Author.Rules.{rules}
 use Rattle.ops.proofs.marks.joined.Statement.{statement}
 use Rattle.ops.proofs.marks.joined.Tie as tie
 
-returns : tie.Need-returns
-returns c = join_none _ _ c.enum_told.given.1
+returns-in-Nothing : tie.Need-returns-in-Nothing
+returns-in-Nothing c = join_none _ _ c.in-Nothing.is
 
-returns-2 : tie.Need-returns-2
-returns-2 c = join_one _ _ _ c.before.before.t.given.1 c.with.ensures
+returns-in-One : tie.Need-returns-in-One
+returns-in-One c = join_one _ _ _ c.before.in-One.is c.with.ensures
 
-returns-3 : tie.Need-returns-3
-returns-3 c = join_two _ _ _ _ c.before.before.before.t2.given.1 c.before.with2.ensures c.with3.ensures
+returns-in-Two : tie.Need-returns-in-Two
+returns-in-Two c = join_two _ _ _ _ c.before.before.in-Two.is c.before.with-in-Two.ensures c.with-in-Two-2.ensures
 
-pub joined-spec : {M : Type 1} → statement M
-joined-spec =
+pub joined_spec : {M : Type 1} → statement M
+joined_spec =
     tie.close
     (tie.spec
-    (λ c. search rules) (λ c. search rules) (λ c κs. search rules) (λ c. search rules) (λ c κs. search rules) (λ c κs. search rules) returns
-    returns-2 returns-3)
+    (λ c. search rules) (λ c. search rules) (λ c κs. search rules) (λ c. search rules) (λ c κs. search rules) (λ c κs. search rules) returns-in-Nothing
+    returns-in-One returns-in-Two)

@@ -1,4 +1,3 @@
--- `line_letter` meets its contract: the line is taken as a part. Assumes nothing.
 use Prim.Native.Nat.{ℕ}
 use mathlib.Core.Path.{ap, ◌∙◌}
 use mathlib.Core.List.{List}
@@ -9,10 +8,10 @@ use Rattle.ops.proofs.marks.line_letter.Statement.{statement}
 use Rattle.ops.proofs.marks.line_letter.Tie as tie
 
 returns : tie.Need-returns
-returns c = let a = c.before.before.before.args in c.has-letter.ensures ∙ ap (λ (k : List ℕ). letter_in a.w k a.q) (part_is a.w a.i a.keys.now)
+returns c = let a = c.before.before.before.args in c.has_letter.ensures ∙ ap (λ (k : List ℕ). letter_in a.w k a.q) (part_is a.w a.i a.keys.now)
 
-pub line-letter-spec : {M : Type 1} → statement M
-line-letter-spec =
+pub line_letter_spec : {M : Type 1} → statement M
+line_letter_spec =
     tie.close
     (tie.spec
     (λ c. search rules) (λ c. search rules) (λ c. search rules) (λ c. search rules) (λ c. search rules) (λ c. search rules) (λ c. search rules)

@@ -1,15 +1,14 @@
--- `one_or_two` meets its contract. Assumes nothing.
 use Rattle.ops.proofs.marks.one_or_two.Statement.{statement}
 use Rattle.ops.proofs.marks.one_or_two.Tie as tie
 
-returns : tie.Need-returns
-returns c = rw c.if1.true
+returns-then-two : tie.Need-returns-then-two
+returns-then-two c = rw c.if-two.true
 
-returns-2 : tie.Need-returns-2
-returns-2 c = rw c.if1.false
+returns-else-two : tie.Need-returns-else-two
+returns-else-two c = rw c.if-two.false
 
-pub one-or-two-spec : {M : Type 1} → statement M
-one-or-two-spec =
+pub one_or_two_spec : {M : Type 1} → statement M
+one_or_two_spec =
     tie.close
     (tie.spec
-    returns returns-2)
+    returns-then-two returns-else-two)

@@ -1,4 +1,3 @@
--- `has_qubit` meets its contract. Assumes nothing.
 use Rattle.ops.specs.Ops.{on_words}
 use Rattle.ops.proofs.TargetLaws.{qubit_test}
 use Rattle.ops.proofs.targets.has_qubit.Statement.{statement}
@@ -8,8 +7,8 @@ returns : tie.Need-returns
 unfolding on_words
 returns c = qubit_test c.args.w c.args.q
 
-pub has-qubit-spec : {M : Type 1} → statement M
-has-qubit-spec =
+pub has_qubit_spec : {M : Type 1} → statement M
+has_qubit_spec =
     tie.close
     (tie.spec
     returns)

@@ -1,4 +1,3 @@
--- `conjugate_turned` meets its contract. Assumes nothing.
 use mathlib.Core.Path.{◌∙◌}
 use borrow.Author.Rules.{rules}
 use Rattle.words.specs.Gates.{bits_at}
@@ -8,9 +7,9 @@ use Rattle.sums.proofs.gates.conjugate_turned.Tie as tie
 
 returns : tie.Need-returns
 returns c =
-    let a = c.before.before.before.before.before.before.before.before.args in
-    let k = c.before.before.before.conjugate-key.ensures in
-    (k.0, sign_is a.gate (bits_at a.w a.a a.b a.key.now) a.w a.key.now c.before.before.before.before.before.parity-for.ensures (c.wide.ensures ∙ k.1))
+    let a = c.before.before.before.before.before.before.before.args in
+    let k = c.before.before.before.conjugate_key-quarters.ensures in
+    (k.0, sign_is a.gate (bits_at a.w a.a a.b a.key.now) a.w a.key.now c.before.before.before.before.before.parity_for-odd.ensures (c.wide.ensures ∙ k.1))
 
-pub conjugate-turned-spec : {M : Type 1} → statement M
-conjugate-turned-spec = tie.close (tie.spec (λ c κs. search rules) (λ c κs. search rules) (λ c κs. search rules) (λ c. search rules) (λ c. search rules) returns)
+pub conjugate_turned_spec : {M : Type 1} → statement M
+conjugate_turned_spec = tie.close (tie.spec (λ c κs. search rules) (λ c κs. search rules) (λ c κs. search rules) (λ c. search rules) (λ c. search rules) returns)

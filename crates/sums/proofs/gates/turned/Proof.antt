@@ -1,4 +1,3 @@
--- `turned` meets its contract. Assumes nothing.
 use mathlib.Core.Path.{◌∙◌}
 use borrow.Author.Rules.{rules}
 use Rattle.sums.proofs.GateRows.{turned_half}
@@ -6,7 +5,7 @@ use Rattle.sums.proofs.gates.turned.Statement.{statement}
 use Rattle.sums.proofs.gates.turned.Tie as tie
 
 returns : tie.Need-returns
-returns c = let a = c.before.args in c.negated-if.ensures ∙ turned_half a.quarters a.v
+returns c = let a = c.before.args in c.negated_if.ensures ∙ turned_half a.quarters a.v
 
-pub turned-spec : {M : Type 1} → statement M
-turned-spec = tie.close (tie.spec (λ c κs. search rules) returns)
+pub turned_spec : {M : Type 1} → statement M
+turned_spec = tie.close (tie.spec (λ c κs. search rules) returns)

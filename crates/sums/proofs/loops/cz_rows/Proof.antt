@@ -1,4 +1,3 @@
--- `cz_rows` meets its contract: the rows before i are through the gate. Assumes nothing.
 use Prim.Native.Nat.{◌-◌}
 use native.Mathlib.Omega.{arith}
 use borrow.Author.Rules.{rules}
@@ -7,33 +6,33 @@ use Rattle.sums.proofs.GateRows.{Midway, midway_start, midway_row, midway_turn, 
 use Rattle.sums.proofs.loops.cz_rows.Statement.{statement}
 use Rattle.sums.proofs.loops.cz_rows.Tie as tie
 
-abbrev invariant-loop : tie.invariant-loop
-invariant-loop words₀ coeffs₀ w n a b i₀ words coeffs i = Midway Cz w n a b i words₀ words coeffs₀ coeffs
+abbrev invariant-loop-i : tie.invariant-loop-i
+invariant-loop-i words₀ coeffs₀ w n a b i₀ words coeffs i = Midway Cz w n a b i words₀ words coeffs₀ coeffs
 
-abbrev decreases-loop : tie.decreases-loop
-decreases-loop words₀ coeffs₀ w n a b i₀ words coeffs i = n - i
+abbrev decreases-loop-i : tie.decreases-loop-i
+decreases-loop-i words₀ coeffs₀ w n a b i₀ words coeffs i = n - i
 
-row_there : tie.Need-conjugate-row-requires invariant-loop decreases-loop
+row_there : tie.Need-conjugate_row-requires invariant-loop-i decreases-loop-i
 row_there c κs =
     let s = c.before.before.before in
     let x = s.before.before.before.args in
-    midway_row Cz x.w x.n x.a x.b s.loop.i s.loop.invariant s.before.before.before.requires (omega arith)
+    midway_row Cz x.w x.n x.a x.b s.loop-i.i s.loop-i.invariant s.before.before.before.requires (omega arith)
 
-loop-again : tie.Need-loop-preserved invariant-loop decreases-loop
+loop-again : tie.Need-loop-i-preserved invariant-loop-i decreases-loop-i
 loop-again c =
     let s = c.before.before.before.before.before.before.before.before in
     let x = s.before.before.before.args in
-    midway_turn Cz x.w x.n x.a x.b s.loop.i s.loop.invariant s.before.before.before.requires (omega arith) c.before.before.before.before.conjugate-row.ensures
+    midway_turn Cz x.w x.n x.a x.b s.loop-i.i s.loop-i.invariant s.before.before.before.requires (omega arith) c.before.before.before.before.conjugate_row.ensures
 
-returns : tie.Need-returns invariant-loop decreases-loop
+returns : tie.Need-returns invariant-loop-i decreases-loop-i
 returns c =
     let s = c.before in
     let x = s.before.before.before.args in
-    midway_end Cz x.w x.n x.a x.b s.loop.i s.loop.invariant (omega arith)
+    midway_end Cz x.w x.n x.a x.b s.loop-i.i s.loop-i.invariant (omega arith)
 
-pub cz-rows-spec : {M : Type 1} → statement M
-cz-rows-spec =
+pub cz_rows_spec : {M : Type 1} → statement M
+cz_rows_spec =
     tie.close
     (tie.spec
-    invariant-loop decreases-loop (λ c. let x = c.before.before.args in midway_start Cz x.w x.n x.a x.b x.words.now x.coeffs.now) row_there (λ c. search rules) (λ c. search rules)
-    loop-again (λ c. c.before.loop.invariant.1.words_long) (λ c. c.before.loop.invariant.1.coeffs_long) returns)
+    invariant-loop-i decreases-loop-i (λ c. let x = c.before.before.args in midway_start Cz x.w x.n x.a x.b x.words.now x.coeffs.now) row_there (λ c. search rules) (λ c. search rules)
+    loop-again (λ c. search rules) (λ c. search rules) returns)

@@ -1,4 +1,3 @@
--- `add_mean` meets its contract. Assumes nothing.
 use native.Mathlib.Omega.{arith}
 use borrow.Author.Rules.{rules}
 use Rattle.rows.proofs.ClearLaws.{row_room}
@@ -6,22 +5,22 @@ use Rattle.sums.proofs.MeanLaws.{mean_added, mean_passed}
 use Rattle.sums.proofs.mean.add_mean.Statement.{statement}
 use Rattle.sums.proofs.mean.add_mean.Tie as tie
 
-mul-size : tie.Need-overflow-mul-size
-mul-size c = let s = c.before.before in let r = row_room s.args.w s.args.i s.args.words.now s.args.coeffs.now s.requires in omega arith
+overflow_mul-size : tie.Need-overflow_mul-size
+overflow_mul-size c = let s = c.before.before in let r = row_room s.args.w s.args.i s.args.words.now s.args.coeffs.now s.requires in omega arith
 
-mul-all-zero : tie.Need-overflow-mul-all-zero
-mul-all-zero c = let s = c.before.before in let r = row_room s.args.w s.args.i s.args.words.now s.args.coeffs.now s.requires in omega arith
+overflow_mul-i : tie.Need-overflow_mul-i
+overflow_mul-i c = let s = c.before.before in let r = row_room s.args.w s.args.i s.args.words.now s.args.coeffs.now s.requires in omega arith
 
-all-zero-requires : tie.Need-all-zero-requires
-all-zero-requires c κs = let s = c.before.before in let r = row_room s.args.w s.args.i s.args.words.now s.args.coeffs.now s.requires in omega arith
+all_zero-requires : tie.Need-all_zero-requires
+all_zero-requires c κs = let s = c.before.before in let r = row_room s.args.w s.args.i s.args.words.now s.args.coeffs.now s.requires in omega arith
 
-returns : tie.Need-returns
-returns c = let a = c.before.before.before.before.before.args in mean_added a.w a.i a.words.now a.coeffs.now a.sum c.before.before.all-zero.ensures c.before.if1.true c.value-at.ensures
+returns-then-all_zero : tie.Need-returns-then-all_zero
+returns-then-all_zero c = let a = c.before.before.before.before.before.args in mean_added a.w a.i a.words.now a.coeffs.now a.sum c.before.before.all_zero.ensures c.before.if-all_zero.true c.value_at-v.ensures
 
-returns-2 : tie.Need-returns-2
-returns-2 c = let a = c.before.before.before.before.args in mean_passed a.w a.i a.words.now a.coeffs.now a.sum c.before.all-zero.ensures c.if1.false
+returns-else-all_zero : tie.Need-returns-else-all_zero
+returns-else-all_zero c = let a = c.before.before.before.before.args in mean_passed a.w a.i a.words.now a.coeffs.now a.sum c.before.all_zero.ensures c.if-all_zero.false
 
-pub add-mean-spec : {M : Type 1} → statement M
-add-mean-spec =
+pub add_mean_spec : {M : Type 1} → statement M
+add_mean_spec =
     tie.close
-    (tie.spec mul-size mul-all-zero all-zero-requires (λ c κs. search rules) returns returns-2)
+    (tie.spec overflow_mul-size overflow_mul-i all_zero-requires (λ c κs. search rules) returns-then-all_zero returns-else-all_zero)

@@ -1,4 +1,3 @@
--- `all_zero` meets its contract: the words before k are 0. Assumes nothing.
 use mathlib.Core.Path.{◌≡◌, sym}
 use Prim.Native.Nat.{ℕ, ◌+◌, ◌-◌, ◌≤◌, ◌<◌}
 use native.Mathlib.Omega.{arith}
@@ -9,25 +8,25 @@ use Rattle.sums.proofs.MeanLaws.{not_zero, zero_words}
 use Rattle.sums.proofs.mean.all_zero.Statement.{statement}
 use Rattle.sums.proofs.mean.all_zero.Tie as tie
 
-abbrev invariant-loop : tie.invariant-loop
-invariant-loop words at w k₀ k = (k ≤ w) × ((l : ℕ) → l < k → get_or words (at + l) 0 ≡ 0)
+abbrev invariant-loop-k : tie.invariant-loop-k
+invariant-loop-k words at w k₀ k = (k ≤ w) × ((l : ℕ) → l < k → get_or words (at + l) 0 ≡ 0)
 
-abbrev decreases-loop : tie.decreases-loop
-decreases-loop words at w k₀ k = w - k
+abbrev decreases-loop-k : tie.decreases-loop-k
+decreases-loop-k words at w k₀ k = w - k
 
-returns : tie.Need-returns invariant-loop decreases-loop
-returns c = let a = c.before.before.before.before.args in sym (not_zero a.words.now a.at a.w c.before.before.before.loop.k c.before.before.loop-test.true c.if1.true)
+returns-then-words-at-ne0 : tie.Need-returns-then-words-at-ne0 invariant-loop-k decreases-loop-k
+returns-then-words-at-ne0 c = let a = c.before.before.before.before.args in sym (not_zero a.words.now a.at a.w c.before.before.before.loop-k.k c.before.before.loop-k-test.true c.if-words-at-ne0.true)
 
-loop-again : tie.Need-loop-preserved invariant-loop decreases-loop
-loop-again c = (omega arith, below_more _ _ c.before.before.before.loop.invariant.1 c.if1.false)
+loop-again : tie.Need-loop-k-preserved invariant-loop-k decreases-loop-k
+loop-again c = (omega arith, below_more _ _ c.before.before.before.loop-k.invariant.1 c.if-words-at-ne0.false)
 
-returns-2 : tie.Need-returns-2 invariant-loop decreases-loop
-returns-2 c =
+returns : tie.Need-returns invariant-loop-k decreases-loop-k
+returns c =
     let s = c.before.before in
-    let e : c.before.loop.k ≡ s.args.w = omega arith in
-    sym (zero_words s.args.words.now s.args.at s.args.w s.requires (rw e at c.before.loop.invariant.1))
+    let e : c.before.loop-k.k ≡ s.args.w = omega arith in
+    sym (zero_words s.args.words.now s.args.at s.args.w s.requires (rw e at c.before.loop-k.invariant.1))
 
-pub all-zero-spec : {M : Type 1} → statement M
-all-zero-spec =
+pub all_zero_spec : {M : Type 1} → statement M
+all_zero_spec =
     tie.close
-    (tie.spec invariant-loop decreases-loop (λ c. search rules) (λ c. search rules) (λ c. search rules) (λ c. search rules) returns (λ c. search rules) (λ c. search rules) loop-again returns-2)
+    (tie.spec invariant-loop-k decreases-loop-k (λ c. search rules) (λ c. search rules) (λ c. search rules) (λ c. search rules) returns-then-words-at-ne0 (λ c. search rules) (λ c. search rules) loop-again returns)

@@ -1,4 +1,3 @@
--- `mean_rows` meets its contract: the sum of the rows before i. Assumes nothing.
 use mathlib.Core.Path.{◌≡◌, refl, ◌∙◌}
 use Prim.Native.Nat.{◌-◌, ◌*◌, ◌≤◌}
 use native.Mathlib.Omega.{arith}
@@ -10,23 +9,23 @@ use Rattle.rows.specs.Rows.{terms_in}
 use Rattle.sums.proofs.mean.mean_rows.Statement.{statement}
 use Rattle.sums.proofs.mean.mean_rows.Tie as tie
 
-abbrev invariant-loop : tie.invariant-loop
-invariant-loop words coeffs w n sum₀ i₀ sum i = (i ≤ n) × (sum ≡ mean_of w (terms_in (2 * w) i words coeffs))
+abbrev invariant-loop-i : tie.invariant-loop-i
+invariant-loop-i words coeffs w n sum₀ i₀ sum i = (i ≤ n) × (sum ≡ mean_of w (terms_in (2 * w) i words coeffs))
 
-abbrev decreases-loop : tie.decreases-loop
-decreases-loop words coeffs w n sum₀ i₀ sum i = n - i
+abbrev decreases-loop-i : tie.decreases-loop-i
+decreases-loop-i words coeffs w n sum₀ i₀ sum i = n - i
 
-loop-holds : tie.Need-loop-init invariant-loop decreases-loop
+loop-holds : tie.Need-loop-i-init invariant-loop-i decreases-loop-i
 unfolding tab foldl
 loop-holds c = (omega arith, refl)
 
-loop-again : tie.Need-loop-preserved invariant-loop decreases-loop
-loop-again c = (omega arith, c.add-mean.ensures ∙ rw (fold_tab, c.before.before.loop.invariant.1))
+loop-again : tie.Need-loop-i-preserved invariant-loop-i decreases-loop-i
+loop-again c = (omega arith, c.add_mean-sum.ensures ∙ rw (fold_tab, c.before.before.loop-i.invariant.1))
 
-returns : tie.Need-returns invariant-loop decreases-loop
-returns c = let e : c.before.loop.i ≡ c.before.before.before.before.args.n = omega arith in rw (← e) c.before.loop.invariant.1
+returns : tie.Need-returns invariant-loop-i decreases-loop-i
+returns c = let e : c.before.loop-i.i ≡ c.before.before.before.before.args.n = omega arith in rw (← e) c.before.loop-i.invariant.1
 
-pub mean-rows-spec : {M : Type 1} → statement M
-mean-rows-spec =
+pub mean_rows_spec : {M : Type 1} → statement M
+mean_rows_spec =
     tie.close
-    (tie.spec invariant-loop decreases-loop loop-holds (λ c κs. omega arith) (λ c. search rules) (λ c. search rules) loop-again returns)
+    (tie.spec invariant-loop-i decreases-loop-i loop-holds (λ c κs. omega arith) (λ c. search rules) (λ c. search rules) loop-again returns)
