@@ -125,12 +125,12 @@ def arguments(text, start):
 
 
 def aligned(args, goals):
-    """Which of the older arguments answer the goals, in order: what is left out is a bare search, and κs goes with what a call requires."""
-    trivial = [bool(re.fullmatch(r"\(λ c( κs)?\. search rules\)", a)) for a in args]
+    """Which of the older arguments answer the goals, in order: what is left out is a bare search, refl or tt, and κs goes with what a call requires."""
+    trivial = [bool(re.fullmatch(r"\(λ c( κs)?\. (search rules|refl|tt)\)", a)) for a in args]
     calls = [bool(re.match(r"\(λ \w+ κs\.", a)) if a.startswith("(") else None for a in args]
 
     def fits(k, goal):
-        return calls[k] is None or calls[k] == goal.endswith("-requires") or bool(re.search(r"-requires(-|$)", goal)) == calls[k]
+        return calls[k] is None or calls[k] == bool(re.search(r"-requires(-|$)", goal))
 
     n, m = len(args), len(goals)
     best = {(n, m): 0}
@@ -252,7 +252,7 @@ def turned(text, names, spec, said):
             root = "c" if "c" in words else root
             if root:
                 part = walked(part, root, names.at[goal], names, said)
-            if goal.startswith("shape_of-"):
+            if goal.startswith("shape_of-") and ".auto." in part:
                 part = part[: part.index("=") + 1] + " search rules\n\n"
             out.append(part)
             continue
@@ -280,7 +280,7 @@ def turned(text, names, spec, said):
                         words = bound[1].split()
                         root = "c" if "c" in words else words[0]
                         new = walked(arg, root, names.at[goal], names, said)
-                        if goal.startswith("shape_of-"):
+                        if goal.startswith("shape_of-") and ".auto." in new:
                             new = "(λ c. search rules)"
                         part = part[:x] + new + part[y:]
         out.append(part)

@@ -25,7 +25,7 @@ use Rattle.words.specs.Letters.{ys_of}
 use Rattle.terms.specs.Start.{term_of, merged}
 use Rattle.terms.specs.Truncation.{crowded}
 use Rattle.terms.specs.Mean.{mean_of}
-use Rattle.terms.proofs.CaseLaws.{and_true, and_false, eq_or_ne}
+use Rattle.terms.proofs.CaseLaws.{and_true, and-false, eq_or_ne}
 use Rattle.terms.proofs.AllLaws.{all_at, all_imp, all_and}
 use Rattle.terms.proofs.StepLaws.{merged_keeps}
 use Rattle.terms.proofs.LetterSteps.{Within, Clear, ClearAt}
@@ -139,7 +139,7 @@ finite_one w k = go (ltb 1 (ys_of w k % 4))
 -- one term is never more than max_terms
 pub one_fits : (m : ℕ) (t : Term) → crowded m (t ∷ []) ≡ false
 one_fits zero t = refl
-one_fits (suc m) t = ap (λ (b : Bool). ltb 0 (suc m) && b) (le-ltb (suc m) 1 (omega arith)) ∙ and_false (ltb 0 (suc m))
+one_fits (suc m) t = ap (λ (b : Bool). ltb 0 (suc m) && b) (le-ltb (suc m) 1 (omega arith)) ∙ and-false (ltb 0 (suc m))
 
 begin_settled : (l : Limits) (ts : List Term) → all_finite ts ≡ true → leb (length ts) l.limit ≡ true → crowded l.max_terms ts ≡ false → Settled l (begin ts)
 unfolding of_bits

@@ -17,7 +17,7 @@ use Rattle.terms.specs.Lists.{All, Each, none, more}
 use Rattle.terms.specs.Term.{Term}
 use Rattle.words.specs.Letters.{ys_of}
 use Rattle.terms.specs.Start.{term_of}
-use Rattle.terms.proofs.CaseLaws.{and_true, and_false}
+use Rattle.terms.proofs.CaseLaws.{and_true, and-false}
 use Rattle.terms.proofs.NearLaws as L
 use Rattle.terms.proofs.NearLaws.{near_signed, at_key}
 use Rattle.terms.proofs.LetterSteps.{Within}
@@ -127,7 +127,7 @@ facts t b h =
       where
         none_folded : (ms : List Bool) (r : Stage Outcome) → or_fold (with_lines t (a ∷ [])) ms r ≡ r
         none_folded ms (going o) = refl
-        none_folded ms (refused n) = ap (λ (b : Bool). cond b (folded (with_lines t (a ∷ [])) ms) (refused n)) (and_false (eqb n 9))
+        none_folded ms (refused n) = ap (λ (b : Bool). cond b (folded (with_lines t (a ∷ [])) ms) (refused n)) (and-false (eqb n 9))
 
 -- ---- how the runs end
 abbrev end_run : Way → Task → Stage Outcome

@@ -13,7 +13,7 @@ use Rattle.terms.specs.Lists.{All}
 use Rattle.terms.specs.Term.{Term}
 use Rattle.terms.specs.Start.{term_of}
 use Rattle.terms.specs.Truncation.{crowded}
-use Rattle.terms.proofs.CaseLaws.{and_true, and_false}
+use Rattle.terms.proofs.CaseLaws.{and_true, and-false}
 use Rattle.terms.proofs.AllLaws.{all_at}
 use Rattle.terms.proofs.CountLaws.{merged_count}
 use Rattle.terms.proofs.LetterSteps.{Within, Clear}
@@ -59,7 +59,7 @@ terms_long w (l ∷ ls) = ap suc (terms_long w ls)
 
 not_crowded : (m : ℕ) (ts : List Term) → (m ≡ 0) ⊎ (length ts ≤ m) → crowded m ts ≡ false
 not_crowded m ts (inl e) = ap (λ (k : ℕ). ltb 0 k && ltb k (length ts)) e
-not_crowded m ts (inr h) = ap (λ (b : Bool). ltb 0 m && b) (le-ltb m (length ts) h) ∙ and_false (ltb 0 m)
+not_crowded m ts (inr h) = ap (λ (b : Bool). ltb 0 m && b) (le-ltb m (length ts) h) ∙ and-false (ltb 0 m)
 
 module _ (t : Task) (h : passes Path t ≡ true) where
   early : (sizes_fit t && run_fits Path t ≡ true) × (reals_in_range t && (angles_hold t && (qubits_below t && targets_differ t)) ≡ true)

@@ -86,7 +86,7 @@ at_each p t u =
     let t₃ = and_snd (p s2) _ t₂ in
     let t₄ = and_snd (p s3) _ t₃ in
     let t₅ = and_snd (p s4) _ t₄ in
-    elim u [
+    elim u as (λ (u : Seven). T (p u)) [
       | s0 ↦ and_fst (p s0) _ t
       | s1 ↦ and_fst (p s1) _ t₁
       | s2 ↦ and_fst (p s2) _ t₂

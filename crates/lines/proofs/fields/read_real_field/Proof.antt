@@ -1,13 +1,12 @@
--- `lines::fields::read_real_field` meets its contract: what follows the key is read.
 use mathlib.Core.Path.{refl}
 use Rattle.lines.proofs.TestLaws.{met, passed}
 use Rattle.lines.proofs.fields.read_real_field.Statement.{statement}
 use Rattle.lines.proofs.fields.read_real_field.Tie as tie
 
-pub read-real-field-spec : {M : Type 1} → statement M
-read-real-field-spec =
+pub read_real_field_spec : {M : Type 1} → statement M
+read_real_field_spec =
     tie.close
     (tie.spec
     (λ c κs. tt) (λ c κs. tt) (λ c κs. tt)
-    (λ c. met _ c.before.before.before.starts_with.ensures c.before.before.if1.true (cc))
-    (λ c. passed _ c.before.starts_with.ensures c.if1.false refl))
+    (λ c. met _ c.before.before.before.starts_with.ensures c.before.before.if-starts_with.true (cc))
+    (λ c. passed _ c.before.starts_with.ensures c.if-starts_with.false refl))

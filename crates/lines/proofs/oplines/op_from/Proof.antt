@@ -1,16 +1,15 @@
--- `lines::oplines::op_from` meets its contract: each name is a case of the definition.
 use borrow.Author.Rules.{rules}
 use Rattle.lines.proofs.oplines.op_from.Statement.{statement}
 use Rattle.lines.proofs.oplines.op_from.Tie as tie
 
-pub op-from-spec : {M : Type 1} → statement M
-op-from-spec =
+pub op_from_spec : {M : Type 1} → statement M
+op_from_spec =
     tie.close
     (tie.spec
     (λ c. search rules) (λ c. search rules) (λ c. search rules) (λ c. search rules) (λ c. search rules) (λ c. search rules)
     (λ c. search rules) (λ c. search rules) (λ c. search rules) (λ c. search rules) (λ c. search rules) (λ c. search rules)
-    (λ c. search rules) (λ c. search rules) (λ c. rw c.before.n.given.1) (λ c. rw c.before.n2.given.1)
-    (λ c. rw c.enum_told.given.1) (λ c. rw c.enum-told2.given.1) (λ c. rw c.enum-told3.given.1)
-    (λ c. rw c.enum-told4.given.1) (λ c. rw c.enum-told5.given.1) (λ c. rw c.enum-told6.given.1)
-    (λ c. rw c.enum-told7.given.1) (λ c. rw c.enum-told8.given.1) (λ c. rw c.enum-told9.given.1)
-    (λ c. rw c.enum-told10.given.1) (λ c. rw c.enum-told11.given.1) (λ c. rw c.enum-told12.given.1))
+    (λ c. search rules) (λ c. search rules) (λ c. rw c.in-OneTarget.is) (λ c. rw c.in-TwoTargets.is)
+    (λ c. rw c.in-T.is) (λ c. rw c.in-Tdg.is) (λ c. rw c.in-Rz.is)
+    (λ c. rw c.in-P.is) (λ c. rw c.in-Rzz.is) (λ c. rw c.in-Pauli.is)
+    (λ c. rw c.in-Depol.is) (λ c. rw c.in-Damp.is) (λ c. rw c.in-Phase.is)
+    (λ c. rw c.in-Thermal.is) (λ c. rw c.in-Depol2.is) (λ c. rw c.in-NoName.is))

@@ -1,6 +1,5 @@
--- `lines::oplines::op_on` meets its contract: what follows the key is read.
 use Rattle.lines.proofs.oplines.op_on.Statement.{statement}
 use Rattle.lines.proofs.oplines.op_on.Tie as tie
 
-pub op-on-spec : {M : Type 1} → statement M
-op-on-spec = tie.close (tie.spec (λ c κs. tt) (λ c κs. tt) (λ c κs. tt) (λ c. cc))
+pub op_on_spec : {M : Type 1} → statement M
+op_on_spec = tie.close (tie.spec (λ c κs. tt) (λ c κs. tt) (λ c κs. tt) (λ c. cc))

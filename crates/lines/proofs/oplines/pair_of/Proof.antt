@@ -1,10 +1,9 @@
--- `lines::oplines::pair_of` meets its contract: each answer is a case of the definition.
 use borrow.Author.Rules.{rules}
 use Rattle.lines.proofs.oplines.pair_of.Statement.{statement}
 use Rattle.lines.proofs.oplines.pair_of.Tie as tie
 
-pub pair-of-spec : {M : Type 1} → statement M
-pair-of-spec =
+pub pair_of_spec : {M : Type 1} → statement M
+pair_of_spec =
     tie.close
     (tie.spec
     (λ c. search rules) (λ c. search rules) (λ c. search rules) (λ c. search rules) (λ c. search rules) (λ c. search rules) (λ c. cc))

@@ -1,4 +1,3 @@
--- `lines::termlines::are_below` meets its contract: what is left gives the same answer.
 use Prim.Native.Nat.{ℕ}
 use mathlib.Core.Path.{◌≡◌, sym, ap, ◌∙◌}
 use mathlib.Core.Bool.{Bool, false, ◌&&◌}
@@ -17,41 +16,41 @@ use Rattle.lines.proofs.termlines.are_below.Tie as tie
 abbrev below : ℕ → List (List ℕ) → Bool
 below n ps = all_below n (qubits_in (map factor_of ps))
 
-abbrev invariant-loop : tie.invariant-loop
-invariant-loop f n rest₀ rest = below n (parts comma rest) ≡ below n (factor_texts f)
+abbrev invariant-loop-rest : tie.invariant-loop-rest
+invariant-loop-rest f n rest₀ rest = below n (parts comma rest) ≡ below n (factor_texts f)
 
-abbrev decreases-loop : tie.decreases-loop
-decreases-loop f n rest₀ rest = length rest
+abbrev decreases-loop-rest : tie.decreases-loop-rest
+decreases-loop-rest f n rest₀ rest = length rest
 
-returns-2 : tie.Need-returns-2 invariant-loop decreases-loop
+returns-then-n-qubit_of : tie.Need-returns-then-n-qubit_of invariant-loop-rest decreases-loop-rest
 unfolding every
-returns-2 c =
+returns-then-n-qubit_of c =
     let d = c.before.before in
     let n : ℕ = d.before.before.before.before.args.n in
-    let e = ap (λ (q : ℕ). ltb q n) (sym c.before.qubit-of.ensures) ∙ le-ltb _ _ c.if2.true in
-    at_stop _ _ d.part-before.ensures (below n) _ d.before.loop.invariant false (λ ps. ap (λ (b : Bool). b && below n ps) e)
+    let e = ap (λ (q : ℕ). ltb q n) (sym c.before.qubit_of.ensures) ∙ le-ltb _ _ c.if-n-qubit_of.true in
+    at_stop _ _ d.part_before-p.ensures (below n) _ d.before.loop-rest.invariant false (λ ps. ap (λ (b : Bool). b && below n ps) e)
 
-returns-3 : tie.Need-returns-3 invariant-loop decreases-loop
+returns-then-p-rest : tie.Need-returns-then-p-rest invariant-loop-rest decreases-loop-rest
 unfolding every
-returns-3 c =
+returns-then-p-rest c =
     let d = c.before.before.before in
     let n : ℕ = d.before.before.before.before.args.n in
-    let e = ap (λ (q : ℕ). ltb q n) (sym c.before.before.qubit-of.ensures) ∙ lt-ltb _ _ c.before.if2.false in
-    at_last _ _ d.part-before.ensures (below n) (below n) _ d.before.loop.invariant (λ ps. ap (λ (b : Bool). b && below n ps) e) c.if3.true
+    let e = ap (λ (q : ℕ). ltb q n) (sym c.before.before.qubit_of.ensures) ∙ lt-ltb _ _ c.before.if-n-qubit_of.false in
+    at_last _ _ d.part_before-p.ensures (below n) (below n) _ d.before.loop-rest.invariant (λ ps. ap (λ (b : Bool). b && below n ps) e) c.if-p-rest.true
 
-loop-again : tie.Need-loop-preserved invariant-loop decreases-loop
+loop-again : tie.Need-loop-rest-preserved invariant-loop-rest decreases-loop-rest
 unfolding every
 loop-again c =
     let d = c.before.before.before.before in
     let n : ℕ = d.before.before.before.before.args.n in
-    let e = ap (λ (q : ℕ). ltb q n) (sym c.before.before.before.qubit-of.ensures) ∙ lt-ltb _ _ c.before.before.if2.false in
-    at_next _ _ d.part-before.ensures (below n) (below n) _ d.before.loop.invariant (λ ps. ap (λ (b : Bool). b && below n ps) e)
-    c.before.if3.false _ c.part-after.ensures
+    let e = ap (λ (q : ℕ). ltb q n) (sym c.before.before.before.qubit_of.ensures) ∙ lt-ltb _ _ c.before.before.if-n-qubit_of.false in
+    at_next _ _ d.part_before-p.ensures (below n) (below n) _ d.before.loop-rest.invariant (λ ps. ap (λ (b : Bool). b && below n ps) e)
+    c.before.if-p-rest.false _ c.part_after-next.ensures
 
-pub are-below-spec : {M : Type 1} → statement M
-are-below-spec =
+pub are_below_spec : {M : Type 1} → statement M
+are_below_spec =
     tie.close
     (tie.spec
-    invariant-loop decreases-loop (λ c. unfold every in ap (below _) (texts_none _ c.if1.true)) (λ c. ap (below _) (texts_some _ c.if1.false))
-    (λ c κs. search rules) (λ c κs. search rules) returns-2 returns-3 (λ c κs. search rules)
-    (λ c. left_less _ _ c.before.before.before.before.part-before.ensures c.before.if3.false _ c.part-after.ensures) loop-again)
+    invariant-loop-rest decreases-loop-rest (λ c. unfold every in ap (below _) (texts_none _ c.if-f-eq0.true)) (λ c. ap (below _) (texts_some _ c.if-f-eq0.false))
+    (λ c κs. search rules) (λ c κs. search rules) returns-then-n-qubit_of returns-then-p-rest (λ c κs. search rules)
+    (λ c. left_less _ _ c.before.before.before.before.part_before-p.ensures c.before.if-p-rest.false _ c.part_after-next.ensures) loop-again)

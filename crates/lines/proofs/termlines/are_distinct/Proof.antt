@@ -1,4 +1,3 @@
--- `lines::termlines::are_distinct` meets its contract: a pass over what is left, from the qubits seen so far, gives the same answer.
 use Prim.Native.Nat.{ℕ}
 use mathlib.Core.Path.{◌≡◌, ap, ◌∙◌}
 use mathlib.Core.Bool.{Bool, true, false, ◌&&◌}
@@ -19,50 +18,50 @@ qubits ps = qubits_in (map factor_of ps)
 abbrev told : List (List ℕ) → Bool
 told ps = all_below 256 (qubits ps) && distinct (qubits ps)
 
-abbrev invariant-loop : tie.invariant-loop
-invariant-loop f seen₀ rest₀ seen rest = fresh seen (qubits (parts comma rest)) ≡ told (factor_texts f)
+abbrev invariant-loop-rest : tie.invariant-loop-rest
+invariant-loop-rest f seen₀ rest₀ seen rest = fresh seen (qubits (parts comma rest)) ≡ told (factor_texts f)
 
-abbrev decreases-loop : tie.decreases-loop
-decreases-loop f seen₀ rest₀ seen rest = length rest
+abbrev decreases-loop-rest : tie.decreases-loop-rest
+decreases-loop-rest f seen₀ rest₀ seen rest = length rest
 
-returns-2 : tie.Need-returns-2 invariant-loop decreases-loop
-returns-2 c =
+returns-then-q-ge256 : tie.Need-returns-then-q-ge256 invariant-loop-rest decreases-loop-rest
+returns-then-q-ge256 c =
     let d = c.before.before in
-    let l = d.before.loop in
-    at_stop _ _ d.part-before.ensures (λ ps. fresh l.seen (qubits ps)) _ l.invariant false
-    (λ ps. fresh_high l.seen _ _ c.before.qubit-of.ensures c.if2.true (qubits ps))
+    let l = d.before.loop-rest in
+    at_stop _ _ d.part_before-p.ensures (λ ps. fresh l.seen (qubits ps)) _ l.invariant false
+    (λ ps. fresh_high l.seen _ _ c.before.qubit_of-q.ensures c.if-q-ge256.true (qubits ps))
 
-returns-3 : tie.Need-returns-3 invariant-loop decreases-loop
-returns-3 c =
+returns-then-seen-q : tie.Need-returns-then-seen-q invariant-loop-rest decreases-loop-rest
+returns-then-seen-q c =
     let d = c.before.before.before in
-    let l = d.before.loop in
-    at_stop _ _ d.part-before.ensures (λ ps. fresh l.seen (qubits ps)) _ l.invariant false
-    (λ ps. fresh_seen l.seen _ _ c.before.before.qubit-of.ensures c.before.if2.false c.if3.true (qubits ps))
+    let l = d.before.loop-rest in
+    at_stop _ _ d.part_before-p.ensures (λ ps. fresh l.seen (qubits ps)) _ l.invariant false
+    (λ ps. fresh_seen l.seen _ _ c.before.before.qubit_of-q.ensures c.before.if-q-ge256.false c.if-seen-q.true (qubits ps))
 
-returns-4 : tie.Need-returns-4 invariant-loop decreases-loop
+returns-then-p-rest : tie.Need-returns-then-p-rest invariant-loop-rest decreases-loop-rest
 unfolding fresh
-returns-4 c =
+returns-then-p-rest c =
     let d = c.before.before.before.before in
-    let l = d.before.loop in
-    at_last _ _ d.part-before.ensures (λ ps. fresh l.seen (qubits ps)) (λ ps. fresh (set l.seen _ true) (qubits ps)) _ l.invariant
-    (λ ps. fresh_next l.seen _ _ c.before.before.before.qubit-of.ensures c.before.before.if2.false c.before.if3.false (qubits ps))
-    c.if4.true
+    let l = d.before.loop-rest in
+    at_last _ _ d.part_before-p.ensures (λ ps. fresh l.seen (qubits ps)) (λ ps. fresh (set l.seen _ true) (qubits ps)) _ l.invariant
+    (λ ps. fresh_next l.seen _ _ c.before.before.before.qubit_of-q.ensures c.before.before.if-q-ge256.false c.before.if-seen-q.false (qubits ps))
+    c.if-p-rest.true
 
-loop-again : tie.Need-loop-preserved invariant-loop decreases-loop
+loop-again : tie.Need-loop-rest-preserved invariant-loop-rest decreases-loop-rest
 loop-again c =
     let s = c.before.before in
     let d = s.before.before.before in
-    let l = d.before.loop in
-    at_next _ _ d.part-before.ensures (λ ps. fresh l.seen (qubits ps)) (λ ps. fresh (set l.seen _ true) (qubits ps)) _ l.invariant
-    (λ ps. fresh_next l.seen _ _ s.before.before.qubit-of.ensures s.before.if2.false s.if3.false (qubits ps))
-    c.before.if4.false _ c.part-after.ensures
+    let l = d.before.loop-rest in
+    at_next _ _ d.part_before-p.ensures (λ ps. fresh l.seen (qubits ps)) (λ ps. fresh (set l.seen _ true) (qubits ps)) _ l.invariant
+    (λ ps. fresh_next l.seen _ _ s.before.before.qubit_of-q.ensures s.before.if-q-ge256.false s.if-seen-q.false (qubits ps))
+    c.before.if-p-rest.false _ c.part_after-next.ensures
 
-pub are-distinct-spec : {M : Type 1} → statement M
-are-distinct-spec =
+pub are_distinct_spec : {M : Type 1} → statement M
+are_distinct_spec =
     tie.close
     (tie.spec
-    invariant-loop decreases-loop (λ c. unfold every distinct in ap told (texts_none _ c.if1.true))
-    (λ c. fresh_start _ ∙ ap told (texts_some _ c.if1.false)) (λ c κs. search rules) (λ c κs. search rules) returns-2 (λ c. search rules)
-    returns-3 (λ c. search rules) returns-4 (λ c κs. search rules)
-    (λ c. left_less _ _ c.before.before.before.before.before.part-before.ensures c.before.if4.false _ c.part-after.ensures)
+    invariant-loop-rest decreases-loop-rest (λ c. unfold every distinct in ap told (texts_none _ c.if-f-eq0.true))
+    (λ c. fresh_start _ ∙ ap told (texts_some _ c.if-f-eq0.false)) (λ c κs. search rules) (λ c κs. search rules) returns-then-q-ge256 (λ c. search rules)
+    returns-then-seen-q (λ c. search rules) returns-then-p-rest (λ c κs. search rules)
+    (λ c. left_less _ _ c.before.before.before.before.before.part_before-p.ensures c.before.if-p-rest.false _ c.part_after-next.ensures)
     loop-again)

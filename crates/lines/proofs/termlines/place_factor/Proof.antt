@@ -1,4 +1,3 @@
--- `lines::termlines::place_factor` meets its contract.
 use borrow.Author.Rules.{rules}
 use Rattle.lines.proofs.WordLaws.{place_one}
 use Rattle.lines.proofs.termlines.place_factor.Statement.{statement}
@@ -9,11 +8,11 @@ returns c =
     let d = c.before.before.before.before in
     let s = d.before.before.before in
     let e = s.before.before in
-    place_one _ _ _ _ _ _ _ _ _ e.before.before.first_byte.ensures e.before.qubit-of.ensures e.sets-x.ensures
-    s.set_if.ensures d.sets-z.ensures c.before.before.set-if2.ensures
+    place_one _ _ _ _ _ _ _ _ _ e.before.before.first_byte-b.ensures e.before.qubit_of-q.ensures e.sets_x.ensures
+    s.set_if.ensures d.sets_z.ensures c.before.before.set_if-2.ensures
 
-pub place-factor-spec : {M : Type 1} → statement M
-place-factor-spec =
+pub place_factor_spec : {M : Type 1} → statement M
+place_factor_spec =
     tie.close
     (tie.spec (λ c κs. search rules) (λ c κs. search rules) (λ c κs. search rules) (λ c κs. search rules) (λ c κs. search rules) (λ c κs. search rules)
     (λ c. search rules) returns)
