@@ -16,7 +16,7 @@ use Rattle.words.specs.Keys.{no_letters}
 use Rattle.words.proofs.RowSteps.{part_is, part_back}
 use Rattle.terms.specs.Lists.{tab, foldl}
 use Rattle.terms.proofs.ListLaws.{length_tab, get_d_tab, tab_snoc, tab_ext, map_tab}
-use Rattle.terms.proofs.CaseLaws.{leb_iff, and_true, and_false}
+use Rattle.terms.proofs.CaseLaws.{leb_iff, and_true, and-false}
 use Rattle.words.specs.Rows.{key_at}
 use Rattle.rows.specs.Rows.{put_key}
 use Rattle.rows.proofs.RowLaws.{row_before, drop_more, length_key}
@@ -311,7 +311,7 @@ module _ (w : ℕ) (h : Head) (ls : List (List ℕ)) (K : List ℕ) (W : List Fl
   loaded room has ek ew = let r = loaded_by true (holds_lines_lem room has) in record { keys = ek ∙ r.keys; weights = ew ∙ r.weights }
 
   pub no_weights : length W < h.terms → LinesLoaded w h ls K K W W
-  no_weights few = loaded_by false (ap (λ (b : Bool). leb (h.terms * (2 * w)) (length K) && b) (lt-leb _ _ few) ∙ and_false (leb (h.terms * (2 * w)) (length K)))
+  no_weights few = loaded_by false (ap (λ (b : Bool). leb (h.terms * (2 * w)) (length K) && b) (lt-leb _ _ few) ∙ and-false (leb (h.terms * (2 * w)) (length K)))
 
   pub no_keys : leb (h.terms * (2 * w)) (length K) ≡ false → LinesLoaded w h ls K K W W
   no_keys few = loaded_by false (ap (λ (b : Bool). b && leb h.terms (length W)) few)

@@ -1,13 +1,12 @@
--- `part_of` meets its contract. Assumes nothing.
 use mathlib.Core.Path.{refl}
 use Rattle.published.proofs.part_of.Statement.{statement}
 use Rattle.published.proofs.part_of.Tie as tie
 
-returns : tie.Need-returns
-returns c = rw c.if1.true refl
+returns-then-odd : tie.Need-returns-then-odd
+returns-then-odd c = rw c.if-odd.true refl
 
-returns-2 : tie.Need-returns-2
-returns-2 c = rw c.if1.false refl
+returns-else-odd : tie.Need-returns-else-odd
+returns-else-odd c = rw c.if-odd.false refl
 
-pub part-of-spec : {M : Type 1} → statement M
-part-of-spec = tie.close (tie.spec returns returns-2)
+pub part_of_spec : {M : Type 1} → statement M
+part_of_spec = tie.close (tie.spec returns-then-odd returns-else-odd)

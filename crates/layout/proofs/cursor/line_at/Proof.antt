@@ -1,4 +1,3 @@
--- `line_at` meets its contract. Assumes nothing.
 use mathlib.Core.Path.{ap, ◌∙◌}
 use borrow.Author.Rules.{rules}
 use Rattle.text.specs.Bytes.{before, newline}
@@ -6,7 +5,7 @@ use Rattle.layout.proofs.cursor.line_at.Statement.{statement}
 use Rattle.layout.proofs.cursor.line_at.Tie as tie
 
 returns : tie.Need-returns
-returns c = c.part-before.ensures ∙ ap (before newline) c.before.part-from.ensures
+returns c = c.part_before.ensures ∙ ap (before newline) c.before.part_from.ensures
 
-pub line-at-spec : {M : Type 1} → statement M
-line-at-spec = tie.close (tie.spec (λ c κs. search rules) (λ c κs. search rules) returns)
+pub line_at_spec : {M : Type 1} → statement M
+line_at_spec = tie.close (tie.spec (λ c κs. search rules) (λ c κs. search rules) returns)

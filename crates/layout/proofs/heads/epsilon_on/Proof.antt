@@ -1,7 +1,6 @@
--- `layout::heads::epsilon_on` meets its contract.
 use borrow.Author.Rules.{rules}
 use Rattle.layout.proofs.heads.epsilon_on.Statement.{statement}
 use Rattle.layout.proofs.heads.epsilon_on.Tie as tie
 
-pub epsilon-on-spec : {M : Type 1} → statement M
-epsilon-on-spec = tie.close (tie.spec (λ c κs. search rules) (λ c. search rules) (λ c κs. search rules) (λ c κs. search rules) (λ c. cc))
+pub epsilon_on_spec : {M : Type 1} → statement M
+epsilon_on_spec = tie.close (tie.spec (λ c κs. search rules) (λ c κs. search rules) (λ c κs. search rules) (λ c. cc))

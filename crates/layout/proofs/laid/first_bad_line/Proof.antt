@@ -1,4 +1,3 @@
--- `layout::laid::first_bad_line` meets its contract: what is left gives the same answer.
 use Prim.Native.Nat.{◌+◌, ◌≤◌}
 use mathlib.Core.Path.{◌≡◌, refl}
 use native.Mathlib.Omega.{arith}
@@ -11,56 +10,56 @@ use Rattle.layout.proofs.LineLaws.{left_less, none_bad, end_bad, line_bad, later
 use Rattle.layout.proofs.laid.first_bad_line.Statement.{statement}
 use Rattle.layout.proofs.laid.first_bad_line.Tie as tie
 
-abbrev invariant-loop : tie.invariant-loop
-invariant-loop s terms ops rest₀ k₀ rest k = (k + length rest ≤ length s + 1) × (bad_line terms ops (parts newline rest) k ≡ bad_line terms ops (parts newline s) 1)
+abbrev invariant-loop-rest : tie.invariant-loop-rest
+invariant-loop-rest s terms ops rest₀ k₀ rest k = (k + length rest ≤ length s + 1) × (bad_line terms ops (parts newline rest) k ≡ bad_line terms ops (parts newline s) 1)
 
-abbrev decreases-loop : tie.decreases-loop
-decreases-loop s terms ops rest₀ k₀ rest k = length rest
+abbrev decreases-loop-rest : tie.decreases-loop-rest
+decreases-loop-rest s terms ops rest₀ k₀ rest k = length rest
 
-loop-holds : tie.Need-loop-init invariant-loop decreases-loop
+loop-holds : tie.Need-loop-rest-init invariant-loop-rest decreases-loop-rest
 loop-holds c = (omega arith, refl)
 
-returns : tie.Need-returns invariant-loop decreases-loop
-returns c =
+returns-then-is_end : tie.Need-returns-then-is_end invariant-loop-rest decreases-loop-rest
+returns-then-is_end c =
     let d = c.before.before.before in
-    none_bad _ _ _ _ _ d.before.before.loop.invariant.1 _ d.before.line-kind.ensures _ d.find.ensures c.before.before.if1.true _
-    c.before.is-end.ensures c.if2.true
+    none_bad _ _ _ _ _ d.before.before.loop-rest.invariant.1 _ d.before.line_kind-c.ensures _ d.find-n.ensures c.before.before.if-rest-n.true _
+    c.before.is_end.ensures c.if-is_end.true
 
-returns-2 : tie.Need-returns-2 invariant-loop decreases-loop
-returns-2 c =
+returns-then-rest-n : tie.Need-returns-then-rest-n invariant-loop-rest decreases-loop-rest
+returns-then-rest-n c =
     let d = c.before.before.before in
-    end_bad _ _ _ _ _ d.before.before.loop.invariant.1 _ d.before.line-kind.ensures _ d.find.ensures c.before.before.if1.true _
-    c.before.is-end.ensures c.if2.false
+    end_bad _ _ _ _ _ d.before.before.loop-rest.invariant.1 _ d.before.line_kind-c.ensures _ d.find-n.ensures c.before.before.if-rest-n.true _
+    c.before.is_end.ensures c.if-is_end.false
 
-returns-3 : tie.Need-returns-3 invariant-loop decreases-loop
-returns-3 c =
+returns-then-not-is_laid_out : tie.Need-returns-then-not-is_laid_out invariant-loop-rest decreases-loop-rest
+returns-then-not-is_laid_out c =
     let d = c.before.before.before.before in
-    line_bad _ _ _ _ _ d.before.before.loop.invariant.1 _ d.before.line-kind.ensures _ d.find.ensures c.before.before.before.if1.false _
-    c.before.before.part-to.ensures _ c.before.is-laid-out.ensures (not-true _ c.if3.true)
+    line_bad _ _ _ _ _ d.before.before.loop-rest.invariant.1 _ d.before.line_kind-c.ensures _ d.find-n.ensures c.before.before.before.if-rest-n.false _
+    c.before.before.part_to.ensures _ c.before.is_laid_out.ensures (c.if-not-is_laid_out.true)
 
-loop-less : tie.Need-loop-smaller invariant-loop decreases-loop
-loop-less c = left_less _ _ _ c.before.before.before.before.if1.false c.part-from.ensures
+loop-less : tie.Need-loop-rest-smaller invariant-loop-rest decreases-loop-rest
+loop-less c = left_less _ _ _ c.before.before.before.before.if-rest-n.false c.part_from-next.ensures
 
-loop-again : tie.Need-loop-preserved invariant-loop decreases-loop
+loop-again : tie.Need-loop-rest-preserved invariant-loop-rest decreases-loop-rest
 loop-again c =
     let d = c.before.before.before.before.before in
-    let l = d.before.before.loop in
-    let h = left_less _ _ _ c.before.before.before.before.if1.false c.part-from.ensures in (
+    let l = d.before.before.loop-rest in
+    let h = left_less _ _ _ c.before.before.before.before.if-rest-n.false c.part_from-next.ensures in (
       omega (arith, l.invariant.0, h),
-      later_bad _ _ _ _ _ l.invariant.1 _ d.before.line-kind.ensures _ d.find.ensures c.before.before.before.before.if1.false _
-          c.before.before.before.part-to.ensures _ c.before.before.is-laid-out.ensures (not-false _ c.before.if3.false) _ c.part-from.ensures,
+      later_bad _ _ _ _ _ l.invariant.1 _ d.before.line_kind-c.ensures _ d.find-n.ensures c.before.before.before.before.if-rest-n.false _
+          c.before.before.before.part_to.ensures _ c.before.before.is_laid_out.ensures (c.before.if-not-is_laid_out.false) _ c.part_from-next.ensures,
     )
 
-add-k : tie.Need-overflow-add-k invariant-loop decreases-loop
-add-k c =
-    let h = left_less _ _ _ c.before.before.before.before.if1.false c.part-from.ensures in
-    omega (arith, c.before.before.before.before.before.before.before.loop.invariant.0, h)
+overflow_add-k : tie.Need-overflow_add-k invariant-loop-rest decreases-loop-rest
+overflow_add-k c =
+    let h = left_less _ _ _ c.before.before.before.before.if-rest-n.false c.part_from-next.ensures in
+    omega (arith, c.before.before.before.before.before.before.before.loop-rest.invariant.0, h)
 
-add-part-from : tie.Need-overflow-add-part-from invariant-loop decreases-loop
-add-part-from c = omega (arith, c.before.before.before.if1.false)
+overflow_add-n : tie.Need-overflow_add-n invariant-loop-rest decreases-loop-rest
+overflow_add-n c = omega (arith, c.before.before.before.if-rest-n.false)
 
-pub first-bad-line-spec : {M : Type 1} → statement M
-first-bad-line-spec =
+pub first_bad_line_spec : {M : Type 1} → statement M
+first_bad_line_spec =
     tie.close
-    (tie.spec invariant-loop decreases-loop loop-holds (λ c κs. search rules) (λ c κs. search rules) (λ c κs. search rules) returns returns-2
-    (λ c κs. search rules) (λ c κs. search rules) returns-3 add-part-from (λ c κs. search rules) add-k loop-less loop-again)
+    (tie.spec invariant-loop-rest decreases-loop-rest loop-holds (λ c κs. search rules) (λ c κs. search rules) (λ c κs. search rules) returns-then-is_end returns-then-rest-n
+    (λ c κs. search rules) (λ c κs. search rules) returns-then-not-is_laid_out overflow_add-n (λ c κs. search rules) overflow_add-k loop-less loop-again)

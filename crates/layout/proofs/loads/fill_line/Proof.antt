@@ -1,4 +1,3 @@
--- `fill_line` meets its contract: the row is taken as a part, and comes back with the bits set. Assumes nothing.
 use mathlib.Core.Path.{ap}
 use lib.ListN.{set}
 use borrow.Author.Rules.{rules}
@@ -9,12 +8,12 @@ use Rattle.layout.proofs.loads.fill_line.Tie as tie
 returns : tie.Need-returns
 returns c =
     let a = c.before.before.before.before.before.before.before.before.args in (
-      fill_row a.w a.i a.keys.now a.l.now c.before.before.before.place-factors.ensures,
-      ap (set a.weights.now a.i) c.weight-on.ensures,
+      fill_row a.w a.i a.keys.now a.l.now c.before.before.before.place_factors.ensures,
+      ap (set a.weights.now a.i) c.weight_on.ensures,
     )
 
-pub fill-line-spec : {M : Type 1} → statement M
-fill-line-spec =
+pub fill_line_spec : {M : Type 1} → statement M
+fill_line_spec =
     tie.close
     (tie.spec (λ c. search rules) (λ c. search rules) (λ c. search rules) (λ c. search rules) (λ c. search rules) (λ c. search rules)
     (λ c. search rules) (λ c κs. search rules) (λ c κs. search rules) (λ c. search rules) (λ c. search rules) (λ c. search rules) (λ c. search rules) returns)
