@@ -190,6 +190,10 @@ def walked(body, root, place, names, said):
             if b and b[1] in alias and re.match(r" in\s", body[m.end() :]):
                 count = alias[b[1]][1] - new
                 return m[1] + ".before" * count if count >= 0 else root + ".before" * alias[b[1]][1]
+            # a lemma of this file that takes a place
+            f = re.search("(%s) $" % WORD, body[: m.start()])
+            if f and names.takes.get(f[1]) in way:
+                return root + ".before" * way.index(names.takes[f[1]])
             return m[0]
         field, *rest = fields_of(m)
         if not names.steps.get(plain(field)):
@@ -236,6 +240,7 @@ def respelled(text, names, spec):
 
 def turned(text, names, spec, said):
     text = respelled(text, names, spec)
+    names.takes = dict(re.findall("(?m)^(" + WORD + r") : \(\w+ : tie\.(" + WORD + r")\)", text))
     out = []
     for a, b in definitions(text):
         part = text[a:b]

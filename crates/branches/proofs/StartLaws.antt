@@ -16,7 +16,7 @@ use Rattle.terms.specs.Lists.{tab}
 use Rattle.words.specs.Letters.{ys_of}
 use Rattle.terms.specs.Start.{term_of, coalesced, merged}
 use Rattle.terms.specs.Term.{Term}
-use Rattle.terms.proofs.CaseLaws.{and_false}
+use Rattle.terms.proofs.CaseLaws.{and-false}
 use Rattle.terms.proofs.ListLaws.{tab_snoc, length_tab}
 use Rattle.words.specs.Rows.{key_at}
 use Rattle.rows.specs.Rows.{terms_in, rows_in, keys_of, coeffs_of, words_with, coeffs_with, put_key, put_coeff, Stepped, Holds}
@@ -111,7 +111,7 @@ module _ (w line : ℕ) (keys : List ℕ) (weight : Float) (ws : List ℕ) (cs :
   pub single_no_line : {n : ℕ} → n ≡ length keys / (2 * w) → n ≤ line → Started one_line w 1 its 0 ws ws cs cs
   single_no_line e h =
       unstarted one_line w 1 its ws cs
-      (ap (λ (b : Bool). leb 1 (rows_in w ws cs) && b) (le-ltb line (length keys / (2 * w)) (rw (← e) h)) ∙ and_false (leb 1 (rows_in w ws cs)))
+      (ap (λ (b : Bool). leb 1 (rows_in w ws cs) && b) (le-ltb line (length keys / (2 * w)) (rw (← e) h)) ∙ and-false (leb 1 (rows_in w ws cs)))
 
   pub single_done : {r n : ℕ} {ws' : List ℕ} {cs' : List Float} → r ≡ rows_in w ws cs → 1 ≤ r → n ≡ length keys / (2 * w) → line < n
       → (ws' ≡ put_key (2 * w) ws 0 (term_of w (key_at (2 * w) keys line) weight).key) × (cs' ≡ put_coeff cs 0 (term_of w (key_at (2 * w) keys line) weight).coeff)
@@ -156,13 +156,13 @@ module _ (w lines : ℕ) (keys : List ℕ) (weights : List Float) (ws : List ℕ
   sum_no_keys e h =
       unstarted all_lines w lines (merged terms) ws cs
       (ap (λ (b : Bool). leb lines (rows_in w ws cs) && (b && leb lines (length weights))) (lt-leb lines (length keys / (2 * w)) (rw (← e) h))
-      ∙ and_false (leb lines (rows_in w ws cs)))
+      ∙ and-false (leb lines (rows_in w ws cs)))
 
   pub sum_no_weights : length weights < lines → Started all_lines w lines (merged terms) 0 ws ws cs cs
   sum_no_weights h =
       unstarted all_lines w lines (merged terms) ws cs
       (ap (λ (b : Bool). leb lines (rows_in w ws cs) && (leb lines (length keys / (2 * w)) && b)) (lt-leb lines (length weights) h)
-      ∙ ap (λ (b : Bool). leb lines (rows_in w ws cs) && b) (and_false (leb lines (length keys / (2 * w)))) ∙ and_false (leb lines (rows_in w ws cs)))
+      ∙ ap (λ (b : Bool). leb lines (rows_in w ws cs) && b) (and-false (leb lines (length keys / (2 * w)))) ∙ and-false (leb lines (rows_in w ws cs)))
 
   module _ {ws₁ : List ℕ} {cs₁ : List Float} (row : lines ≤ rows_in w ws cs) (there : lines ≤ length keys / (2 * w)) (have : lines ≤ length weights)
       (H : Holds (2 * w) lines lines terms ws ws₁ cs cs₁) where

@@ -1,4 +1,3 @@
--- `bucket` meets its contract. Assumes nothing.
 use mathlib.Core.Path.{refl}
 use native.Mathlib.Omega.{arith}
 use Prim.Native.Nat.{◌+◌, ◌/◌, ◌%◌}
@@ -8,8 +7,8 @@ use borrow.Author.Rules.{rules}
 use Rattle.branches.proofs.chains.bucket.Statement.{statement}
 use Rattle.branches.proofs.chains.bucket.Tie as tie
 
-mul-result : tie.Need-overflow-mul-result
-mul-result c =
+overflow_mul-result : tie.Need-overflow_mul-result
+overflow_mul-result c =
     let h = c.args.h in
     record { fits = product_fits ((h / 4294967296 + h % 4294967296) % 4294967296) c.args.buckets (omega arith) c.requires }
 
@@ -17,5 +16,5 @@ returns : tie.Need-returns
 unfolding spread
 returns c = refl
 
-pub bucket-spec : {M : Type 1} → statement M
-bucket-spec = tie.close (tie.spec (λ c. search rules) mul-result returns)
+pub bucket_spec : {M : Type 1} → statement M
+bucket_spec = tie.close (tie.spec (λ c. search rules) overflow_mul-result returns)

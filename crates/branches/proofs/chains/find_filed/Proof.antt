@@ -1,4 +1,3 @@
--- `find_filed` meets its contract. Assumes nothing.
 use Rattle.branches.proofs.FileLaws.{found_one}
 use borrow.Author.Rules.{rules}
 use Rattle.branches.proofs.chains.find_filed.Statement.{statement}
@@ -8,7 +7,7 @@ returns : tie.Need-returns
 returns c = let s = c.before.before.before.before.before in
     let a = s.args in
     found_one a.sought a.w a.words.now a.n a.buckets a.index.now a.i s.requires.1.1.1 s.requires.1.1.0
-    c.before.before.bucket-of.ensures.0 c.before.walk.ensures c.found.ensures
+    c.before.before.bucket_of-b.ensures.0 c.before.walk.ensures c.found.ensures
 
-pub find-filed-spec : {M : Type 1} → statement M
-find-filed-spec = tie.close (tie.spec (λ c κs. search rules) (λ c κs. search rules) (λ c κs. search rules) returns)
+pub find_filed_spec : {M : Type 1} → statement M
+find_filed_spec = tie.close (tie.spec (λ c κs. search rules) (λ c κs. search rules) (λ c κs. search rules) returns)

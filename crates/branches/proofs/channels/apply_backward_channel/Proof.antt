@@ -1,4 +1,3 @@
--- `apply_backward_channel` meets its contract: none is met, or the terms go through the channel. Assumes nothing.
 use mathlib.Core.Path.{refl, ◌≡◌, sym, ap, ◌∙◌}
 use mathlib.Core.Bool.{Bool, true}
 use Prim.Native.Nat.{ℕ}
@@ -15,27 +14,27 @@ met : (s : tie.Start) {two : Bool} {m : ℕ} → two ≡ acts_on_two s.args.acti
     m ≡ met_in a.w (one_or_two two a.a a.b) a.n a.words.now a.coeffs.now → m ≡ met_in a.w (kind_targets a.action.kind a.a a.b) a.n a.words.now a.coeffs.now
 met s t e = let a = s.args in e ∙ ap (λ (two : Bool). met_in a.w (one_or_two two a.a a.b) a.n a.words.now a.coeffs.now) t
 
-returns : tie.Need-returns
-returns c =
-    let a = c.before.before.before.before.before.before.before.before.before.before.args in
-    let two = c.before.before.before.before.before.before.on-two.ensures in
-    let m = met c.before.before.before.before.before.before.before.before.before.before two c.before.before.before.met-rows.ensures in
+returns-then-has_targets : tie.Need-returns-then-has_targets
+returns-then-has_targets c =
+    let a = c.before.before.before.before.before.before.before.before.args in
+    let two = c.before.before.before.before.on_two-two.ensures in
+    let m = met c.before.before.before.before.before.before.before.before two c.before.before.before.met_rows-met.ensures in
     let qs = kind_targets a.action.kind a.a a.b in
-    let f : in_words a.w qs ≡ true = ap (λ (t : Bool). in_words a.w (one_or_two t a.a a.b)) (sym two) ∙ sym c.before.has-targets.ensures ∙ c.if2.true in (
+    let f : in_words a.w qs ≡ true = ap (λ (t : Bool). in_words a.w (one_or_two t a.a a.b)) (sym two) ∙ sym c.before.has_targets.ensures ∙ c.if-has_targets.true in (
       (
         m,
         same_grown a.w a.n _ a.words.now a.coeffs.now
-            (λ e. bare_channeled a.w a.a a.b a.action _ (untouched_bare a.w a.n qs a.words.now a.coeffs.now (sym m ∙ c.before.before.if1.true) f (once a.w a.n a.words.now a.coeffs.now e))),
+            (λ e. bare_channeled a.w a.a a.b a.action _ (untouched_bare a.w a.n qs a.words.now a.coeffs.now (sym m ∙ c.before.before.if-met-eq0.true) f (once a.w a.n a.words.now a.coeffs.now e))),
       ),
       refl,
     )
 
-returns-2 : tie.Need-returns-2
-returns-2 c = ((met c.before.before.before.before.before.before.before.before.before.before.before.before.before.before.before.before.before.before c.before.before.before.before.before.before.before.before.before.before.before.before.before.before.on-two.ensures c.before.before.before.before.before.before.before.before.before.before.before.met-rows.ensures, c.before.before.before.before.before.before.channel-held.ensures), search rules)
+returns : tie.Need-returns
+returns c = ((met c.before.before.before.before.before.before.before.before.before.before.before.before.before.before.before.before c.before.before.before.before.before.before.before.before.before.before.before.before.on_two-two.ensures c.before.before.before.before.before.before.before.before.before.before.before.met_rows-met.ensures, c.before.before.before.before.before.before.channel_held-count.ensures), search rules)
 
-pub apply-backward-channel-spec : {M : Type 1} → statement M
-apply-backward-channel-spec =
+pub apply_backward_channel_spec : {M : Type 1} → statement M
+apply_backward_channel_spec =
     tie.close
     (tie.spec
-    (λ c κs. search rules) (λ c κs. search rules) (λ c κs. search rules) (λ c. search rules) (λ c. search rules) returns (λ c κs. search rules) (λ c. search rules)
-    (λ c. search rules) (λ c. search rules) returns-2)
+    (λ c κs. search rules) (λ c κs. search rules) (λ c κs. search rules) (λ c. search rules) (λ c. search rules) returns-then-has_targets (λ c κs. search rules) (λ c. search rules)
+    (λ c. search rules) (λ c. search rules) returns)

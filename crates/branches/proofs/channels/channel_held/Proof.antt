@@ -1,4 +1,3 @@
--- `channel_held` meets its contract: no room, or one of the two kinds. Assumes nothing.
 use Prim.Native.Nat.{◌*◌}
 use native.Mathlib.Omega.{arith}
 use borrow.Author.Tests.{leb-true}
@@ -9,32 +8,32 @@ use borrow.Author.Rules.{rules}
 use Rattle.branches.proofs.channels.channel_held.Statement.{statement}
 use Rattle.branches.proofs.channels.channel_held.Tie as tie
 
-returns : tie.Need-returns
-returns c = let a = c.before.before.before.before.before.args in
-    unstepped a.w (2 * a.n) _ a.n _ a.words.now a.coeffs.now (twice_no a.w a.n a.words.now a.coeffs.now c.before.rows_in.ensures c.if1.true)
+returns-then-rows_in-n : tie.Need-returns-then-rows_in-n
+returns-then-rows_in-n c = let a = c.before.before.before.before.before.args in
+    unstepped a.w (2 * a.n) _ a.n _ a.words.now a.coeffs.now (twice_no a.w a.n a.words.now a.coeffs.now c.before.rows_in.ensures c.if-rows_in-n.true)
 
-apply-local-requires : tie.Need-apply-local-requires
-apply-local-requires c κs = let i = c.before.before.before.before.before.before in
-    let a = c.before.before.before.before.before.before.before.before.before.before.before.args in
-    rows_room a.w (2 * a.n) a.words.now a.coeffs.now (leb-true (2 * a.n) _ (twice_yes a.w a.n a.words.now a.coeffs.now i.before.rows_in.ensures i.if1.false))
-
-scale-eithers-requires : tie.Need-scale-eithers-requires
-scale-eithers-requires c κs = let i = c.before.before.before.before.before in
+apply_local-requires : tie.Need-apply_local-requires
+apply_local-requires c κs = let i = c.before.before.before.before.before in
     let a = c.before.before.before.before.before.before.before.before.before.before.args in
-    room_less {R = a.n} (omega arith) (rows_room a.w (2 * a.n) a.words.now a.coeffs.now (leb-true (2 * a.n) _ (twice_yes a.w a.n a.words.now a.coeffs.now i.before.rows_in.ensures i.if1.false)))
+    rows_room a.w (2 * a.n) a.words.now a.coeffs.now (leb-true (2 * a.n) _ (twice_yes a.w a.n a.words.now a.coeffs.now i.before.rows_in.ensures i.if-rows_in-n.false))
 
-returns-2 : tie.Need-returns-2
-returns-2 c = let i = c.before.before.before.before.before.before.before.before.before.before.before.before.before in
-    let a = c.before.before.before.before.before.before.before.before.before.before.before.before.before.before.before.before.before.before.args in
-    let e = c.before.before.before.before.before.before.apply-local.ensures in
-    channel_local a.w a.a a.b a.n a.action a.words.now a.coeffs.now (twice_yes a.w a.n a.words.now a.coeffs.now i.before.rows_in.ensures i.if1.false) c.before.before.before.before.before.before.before.before.before.before.enum_told.given.1 e.0 e.1
+scale_eithers-requires : tie.Need-scale_eithers-requires
+scale_eithers-requires c κs = let i = c.before.before.before in
+    let a = c.before.before.before.before.before.before.before.before.args in
+    room_less {R = a.n} (omega arith) (rows_room a.w (2 * a.n) a.words.now a.coeffs.now (leb-true (2 * a.n) _ (twice_yes a.w a.n a.words.now a.coeffs.now i.before.rows_in.ensures i.if-rows_in-n.false)))
 
-returns-3 : tie.Need-returns-3
-returns-3 c = let i = c.before.before.before.before.before.before.before.before in
-    let a = c.before.before.before.before.before.before.before.before.before.before.before.before.before.args in
-    channel_pair a.w a.a a.b a.n a.action a.words.now a.coeffs.now (twice_yes a.w a.n a.words.now a.coeffs.now i.before.rows_in.ensures i.if1.false) c.before.before.before.before.before.enum-told2.given.1 c.before.before.scale-eithers.ensures
+returns-in-Local : tie.Need-returns-in-Local
+returns-in-Local c = let i = c.before.before.before.before.before.before.before.before.before.before.before.before in
+    let a = c.before.before.before.before.before.before.before.before.before.before.before.before.before.before.before.before.before.args in
+    let e = c.before.before.before.before.before.before.apply_local.ensures in
+    channel_local a.w a.a a.b a.n a.action a.words.now a.coeffs.now (twice_yes a.w a.n a.words.now a.coeffs.now i.before.rows_in.ensures i.if-rows_in-n.false) c.before.before.before.before.before.before.before.before.before.before.in-Local.is e.0 e.1
 
-pub channel-held-spec : {M : Type 1} → statement M
-channel-held-spec =
+returns-in-Depolarizing2q : tie.Need-returns-in-Depolarizing2q
+returns-in-Depolarizing2q c = let i = c.before.before.before.before.before.before in
+    let a = c.before.before.before.before.before.before.before.before.before.before.before.args in
+    channel_pair a.w a.a a.b a.n a.action a.words.now a.coeffs.now (twice_yes a.w a.n a.words.now a.coeffs.now i.before.rows_in.ensures i.if-rows_in-n.false) c.before.before.before.before.in-Depolarizing2q.is c.before.before.scale_eithers.ensures
+
+pub channel_held_spec : {M : Type 1} → statement M
+channel_held_spec =
     tie.close
-    (tie.spec (λ c κs. search rules) returns (λ c. search rules) apply-local-requires (λ c. search rules) (λ c. search rules) scale-eithers-requires (λ c. search rules) (λ c. search rules) (λ c. search rules) returns-2 (λ c. search rules) (λ c. search rules) returns-3)
+    (tie.spec (λ c κs. search rules) returns-then-rows_in-n (λ c. search rules) apply_local-requires (λ c. search rules) (λ c. search rules) scale_eithers-requires (λ c. search rules) (λ c. search rules) (λ c. search rules) returns-in-Local (λ c. search rules) (λ c. search rules) returns-in-Depolarizing2q)

@@ -1,4 +1,3 @@
--- `row_letter` meets its contract: the row is taken as a part. Assumes nothing.
 use Prim.Native.Nat.{◌*◌}
 use mathlib.Core.Path.{ap, ◌∙◌}
 use Rattle.branches.specs.Letters.{letter_of}
@@ -8,10 +7,10 @@ use Rattle.branches.proofs.channels.row_letter.Statement.{statement}
 use Rattle.branches.proofs.channels.row_letter.Tie as tie
 
 returns : tie.Need-returns
-returns c = let a = c.before.before.before.args in c.pauli-letter.ensures ∙ ap (letter_of a.w a.q) (part_key (2 * a.w) a.i a.words.now)
+returns c = let a = c.before.before.before.args in c.pauli_letter.ensures ∙ ap (letter_of a.w a.q) (part_key (2 * a.w) a.i a.words.now)
 
-pub row-letter-spec : {M : Type 1} → statement M
-row-letter-spec =
+pub row_letter_spec : {M : Type 1} → statement M
+row_letter_spec =
     tie.close
     (tie.spec
     (λ c. search rules) (λ c. search rules) (λ c. search rules) (λ c. search rules) (λ c. search rules) (λ c. search rules) (λ c. search rules)

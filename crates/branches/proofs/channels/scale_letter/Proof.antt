@@ -1,4 +1,3 @@
--- `scale_letter` meets its contract. Assumes nothing.
 use Prim.Native.Nat.{◌*◌}
 use mathlib.Core.Path.{sym, ◌∙◌}
 use native.Mathlib.Omega.{arith}
@@ -8,21 +7,21 @@ use borrow.Author.Rules.{rules}
 use Rattle.branches.proofs.channels.scale_letter.Statement.{statement}
 use Rattle.branches.proofs.channels.scale_letter.Tie as tie
 
+returns-in_default : tie.Need-returns-in_default
+returns-in_default c = let a = c.before.before.before.before.args in letter_none a.w a.q a.lambda a.i a.words.now a.coeffs.now c.before.row_letter-letter.ensures c.in_default.is
+
+offset_bounds-lambda-l : tie.Need-offset_bounds-lambda-l
+offset_bounds-lambda-l c = let a = c.before.before.before.before.before.before.args in let h = letter_small a.w a.q (key_at (2 * a.w) a.words.now a.i) c.before.before.in-At.l (sym c.before.before.before.row_letter-letter.ensures ∙ c.before.before.in-At.is) in omega arith
+
+bounds-lambda-l : tie.Need-bounds-lambda-l
+bounds-lambda-l c = let a = c.before.before.before.before.before.before.args in letter_small a.w a.q (key_at (2 * a.w) a.words.now a.i) _ (sym c.before.before.before.row_letter-letter.ensures ∙ c.before.before.in-At.is)
+
 returns : tie.Need-returns
-returns c = let a = c.before.before.before.before.before.args in letter_none a.w a.q a.t6 a.i a.words.now a.coeffs.now c.before.before.row-letter.ensures c.enum_told.given.1
+returns c = let a = c.before.before.before.before.before.before.before.before.before.before.args in letter_scaled a.w a.q a.lambda a.i a.words.now a.coeffs.now _ c.before.before.before.before.before.before.before.row_letter-letter.ensures c.before.before.before.before.before.before.in-At.is c.before.before.before.before.before.value_at-v.ensures c.before.before.before.scaled.ensures c.before.before.store_value.ensures
 
-mul-scaled : tie.Need-overflow-mul-scaled
-mul-scaled c = let a = c.before.before.before.before.before.before.before.before.before.args in let h = letter_small a.w a.q (key_at (2 * a.w) a.words.now a.i) c.before.before.before.before.letter.given.0.0 (sym c.before.before.before.before.before.before.row-letter.ensures ∙ c.before.before.before.before.letter.given.1) in omega arith
-
-array_read_scaled : tie.Need-array-read-scaled
-array_read_scaled c = let a = c.before.before.before.before.before.before.before.before.before.args in letter_small a.w a.q (key_at (2 * a.w) a.words.now a.i) _ (sym c.before.before.before.before.before.before.row-letter.ensures ∙ c.before.before.before.before.letter.given.1)
-
-returns-2 : tie.Need-returns-2
-returns-2 c = let a = c.before.before.before.before.before.before.before.before.before.before.before.before.before.args in letter_scaled a.w a.q a.t6 a.i a.words.now a.coeffs.now _ c.before.before.before.before.before.before.before.before.before.before.row-letter.ensures c.before.before.before.before.before.before.before.before.letter.given.1 c.before.before.before.before.before.value-at.ensures c.before.before.before.scaled.ensures c.before.before.store-value.ensures
-
-pub scale-letter-spec : {M : Type 1} → statement M
-scale-letter-spec =
+pub scale_letter_spec : {M : Type 1} → statement M
+scale_letter_spec =
     tie.close
     (tie.spec
-    (λ c κs. search rules) (λ c. search rules) (λ c. search rules) returns (λ c κs. search rules) mul-scaled array_read_scaled
-    (λ c κs. search rules) (λ c κs. search rules) (λ c. search rules) returns-2)
+    (λ c κs. search rules) (λ c. search rules) (λ c. search rules) returns-in_default (λ c κs. search rules) offset_bounds-lambda-l bounds-lambda-l
+    (λ c κs. search rules) (λ c κs. search rules) (λ c. search rules) returns)

@@ -1,4 +1,3 @@
--- `begin` meets its contract. Assumes nothing.
 use mathlib.Core.Path.{ap}
 use mathlib.Core.List.{List}
 use Prim.Native.Nat.{ℕ, ◌+◌}
@@ -10,5 +9,5 @@ use Rattle.branches.proofs.pairs.begin.Tie as tie
 returns : tie.Need-returns
 returns c = let a = c.before.before.before.before.before.args in ap (λ (l : List ℕ). set l (a.buckets + a.n + a.i) 1) c.before.before.link.ensures
 
-pub begin-spec : {M : Type 1} → statement M
-begin-spec = tie.close (tie.spec (λ c κs. search rules) (λ c. search rules) (λ c. search rules) (λ c. search rules) (λ c. search rules) (λ c. search rules) returns)
+pub begin_spec : {M : Type 1} → statement M
+begin_spec = tie.close (tie.spec (λ c κs. search rules) (λ c. search rules) (λ c. search rules) (λ c. search rules) (λ c. search rules) (λ c. search rules) returns)

@@ -1,4 +1,3 @@
--- `join` meets its contract. Assumes nothing.
 use mathlib.Core.Bool.{false≢true}
 use native.Mathlib.Omega.{arith}
 use lib.ListN.{length-set}
@@ -6,16 +5,16 @@ use borrow.Author.Rules.{rules}
 use Rattle.branches.proofs.pairs.join.Statement.{statement}
 use Rattle.branches.proofs.pairs.join.Tie as tie
 
+returns-then-index-from-ne1 : tie.Need-returns-then-index-from-ne1
+returns-then-index-from-ne1 c e = absurd (false≢true e)
+
+bounds-index-from-3 : tie.Need-bounds-index-from-3
+bounds-index-from-3 c = simp length-set (omega arith)
+
 returns : tie.Need-returns
-returns c e = absurd (false≢true e)
+returns c e = search rules
 
-slice-write-index-2 : tie.Need-slice-write-index-2
-slice-write-index-2 c = simp length-set (omega arith)
-
-returns-2 : tie.Need-returns-2
-returns-2 c e = search rules
-
-pub join-spec : {M : Type 1} → statement M
-join-spec =
+pub join_spec : {M : Type 1} → statement M
+join_spec =
     tie.close
-    (tie.spec (λ c. search rules) (λ c. search rules) (λ c. search rules) returns (λ c. search rules) (λ c. search rules) (λ c. search rules) (λ c. search rules) (λ c. search rules) (λ c. search rules) (λ c. search rules) (λ c. search rules) (λ c. search rules) (λ c. search rules) slice-write-index-2 (λ c. search rules) returns-2)
+    (tie.spec (λ c. search rules) (λ c. search rules) (λ c. search rules) returns-then-index-from-ne1 (λ c. search rules) (λ c. search rules) (λ c. search rules) (λ c. search rules) (λ c. search rules) (λ c. search rules) (λ c. search rules) (λ c. search rules) (λ c. search rules) (λ c. search rules) bounds-index-from-3 (λ c. search rules) returns)

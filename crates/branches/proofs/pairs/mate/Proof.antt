@@ -1,4 +1,3 @@
--- `mate` meets its contract. Assumes nothing.
 use mathlib.Core.Path.{◌≡◌, sym, ap}
 use Prim.Native.Nat.{suc, ◌-◌}
 use native.Mathlib.Omega.{arith}
@@ -7,10 +6,10 @@ use borrow.Author.Rules.{rules}
 use Rattle.branches.proofs.pairs.mate.Statement.{statement}
 use Rattle.branches.proofs.pairs.mate.Tie as tie
 
-returns-3 : tie.Need-returns-3
-returns-3 c =
+returns : tie.Need-returns
+returns c =
     let n = c.before.before.args.code in
     let e : n ≡ suc (suc (n - 2)) = omega arith in sym (ap mate_of e)
 
-pub mate-spec : {M : Type 1} → statement M
-mate-spec = tie.close (tie.spec (λ c. search rules) (λ c. search rules) (λ c. search rules) returns-3)
+pub mate_spec : {M : Type 1} → statement M
+mate_spec = tie.close (tie.spec (λ c. search rules) (λ c. search rules) (λ c. search rules) returns)

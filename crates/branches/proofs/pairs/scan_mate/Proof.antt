@@ -1,4 +1,3 @@
--- `scan_mate` meets its contract, by what the scan finds. Assumes nothing.
 use mathlib.Core.Path.{sym, ◌∙◌, subst}
 use mathlib.Core.Bool.{false≢true}
 use Prim.Native.Nat.{◌*◌}
@@ -10,34 +9,34 @@ use borrow.Author.Rules.{rules}
 use Rattle.branches.proofs.pairs.scan_mate.Statement.{statement}
 use Rattle.branches.proofs.pairs.scan_mate.Tie as tie
 
-row-met-requires : tie.Need-row-met-requires
-row-met-requires c κs = let s = c.before in let r = row_before (2 * s.args.w) s.requires.1 in omega arith
+row_met-requires : tie.Need-row_met-requires
+row_met-requires c κs = let s = c.before in let r = row_before (2 * s.args.w) s.requires.1 in omega arith
+
+returns-then-not-row_met : tie.Need-returns-then-not-row_met
+returns-then-not-row_met c a = absurd (false≢true (sym (sym c.before.row_met.ensures ∙ c.if-not-row_met.true) ∙ a))
+
+scan-found-requires : tie.Need-scan-found-requires
+scan-found-requires c κs = let s = c.before.before.before in let r = row_before (2 * s.args.w) s.requires.1 in (s.requires.0, omega arith)
+
+returns-in_default : tie.Need-returns-in_default
+returns-in_default c =
+    let k = c.before.before.before in
+    (sym k.row_met.ensures ∙ c.before.before.if-not-row_met.false, sym c.before.scan-found.ensures ∙ c.in_default.is)
+
+returns-then-j-i : tie.Need-returns-then-j-i
+returns-then-j-i c a = subst (NotAfter c.before.before.before.before.before.before.args.i) (sym (sym c.before.before.scan-found.ensures ∙ c.before.in-At.is)) c.if-j-i.true
+
+row_odd-requires : tie.Need-row_odd-requires
+row_odd-requires c κs = let s = c.before.before.before.before.before.before in let r = row_before (2 * s.args.w) s.requires.1 in omega arith
 
 returns : tie.Need-returns
-returns c a = absurd (false≢true (sym (sym c.before.row_met.ensures ∙ not-true c.before.row_met.result c.if1.true) ∙ a))
-
-scan-requires : tie.Need-scan-requires
-scan-requires c κs = let s = c.before.before.before in let r = row_before (2 * s.args.w) s.requires.1 in (s.requires.0, omega arith)
-
-returns-2 : tie.Need-returns-2
-returns-2 c =
-    let k = c.before.before.before.before in
-    (sym k.row_met.ensures ∙ not-false k.row_met.result c.before.before.before.if1.false, sym c.before.before.scan.ensures ∙ c.enum_told.given.1)
-
-returns-3 : tie.Need-returns-3
-returns-3 c a = subst (NotAfter c.before.before.before.before.before.before.before.before.args.i) (sym (sym c.before.before.before.before.scan.ensures ∙ c.before.before.found.given.1)) c.if2.true
-
-row-odd-requires : tie.Need-row-odd-requires
-row-odd-requires c κs = let s = c.before.before.before.before.before.before.before.before in let r = row_before (2 * s.args.w) s.requires.1 in omega arith
-
-returns-4 : tie.Need-returns-4
-returns-4 c =
-    let k = c.before.before.before.before.before.before.before in (
-      sym k.row_met.ensures ∙ not-false k.row_met.result c.before.before.before.before.before.before.if1.false,
-      sym c.before.before.before.before.before.scan.ensures ∙ c.before.before.before.found.given.1,
+returns c =
+    let k = c.before.before.before.before.before in (
+      sym k.row_met.ensures ∙ c.before.before.before.before.if-not-row_met.false,
+      sym c.before.before.before.scan-found.ensures ∙ c.before.before.in-At.is,
       omega arith,
-      c.row-odd.ensures.0,
+      c.row_odd.ensures.0,
     )
 
-pub scan-mate-spec : {M : Type 1} → statement M
-scan-mate-spec = tie.close (tie.spec row-met-requires returns scan-requires (λ c. search rules) (λ c. search rules) returns-2 returns-3 row-odd-requires returns-4)
+pub scan_mate_spec : {M : Type 1} → statement M
+scan_mate_spec = tie.close (tie.spec row_met-requires returns-then-not-row_met scan-found-requires (λ c. search rules) (λ c. search rules) returns-in_default returns-then-j-i row_odd-requires returns)

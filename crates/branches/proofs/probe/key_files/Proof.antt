@@ -1,4 +1,3 @@
--- `key_files` meets its contract. Assumes nothing.
 use mathlib.Core.Bool.{not}
 use mathlib.Core.Path.{sym, ap, ◌∙◌}
 use Rattle.branches.specs.declared.Sought.{Sought}
@@ -7,10 +6,10 @@ use borrow.Author.Rules.{rules}
 use Rattle.branches.proofs.probe.key_files.Statement.{statement}
 use Rattle.branches.proofs.probe.key_files.Tie as tie
 
-returns-3 : tie.Need-returns-3
-returns-3 c = let a = c.before.before.before.before.before.args in ap not c.get-bit.ensures ∙ ap (λ (s : Sought). files a.w s a.key.now) (sym c.before.before.sought.given.1)
+returns-in-Identity : tie.Need-returns-in-Identity
+returns-in-Identity c = let a = c.before.before.before.args in ap not c.get_bit.ensures ∙ ap (λ (s : Sought). files a.w s a.key.now) (sym c.before.in-Identity.is)
 
-pub key-files-spec : {M : Type 1} → statement M
-key-files-spec =
+pub key_files_spec : {M : Type 1} → statement M
+key_files_spec =
     tie.close
-    (tie.spec (λ c. search rules) (λ c. search rules) (λ c. search rules) (λ c κs. search rules) (λ c. search rules) (λ c. search rules) returns-3)
+    (tie.spec (λ c. search rules) (λ c. search rules) (λ c. search rules) (λ c κs. search rules) (λ c. search rules) (λ c. search rules) returns-in-Identity)

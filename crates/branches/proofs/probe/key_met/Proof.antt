@@ -1,17 +1,16 @@
--- `key_met` meets its contract. Assumes nothing.
 use Rattle.branches.proofs.ProbeLaws.{met_one, met_two}
 use borrow.Author.Rules.{rules}
 use Rattle.branches.proofs.probe.key_met.Statement.{statement}
 use Rattle.branches.proofs.probe.key_met.Tie as tie
 
-returns : tie.Need-returns
-returns c = let a = c.before.before.before.before.before.args in met_one a.axis _ a.key.now c.before.before.axis.given.1 c.get-bit.ensures
+returns-in-Z : tie.Need-returns-in-Z
+returns-in-Z c = let a = c.before.before.before.args in met_one a.axis _ a.key.now c.before.in-Z.is c.get_bit.ensures
 
-returns-2 : tie.Need-returns-2
-returns-2 c = let a = c.before.before.before.before.before.before.args in met_two a.axis _ _ a.key.now c.before.before.before.axis2.given.1 c.before.get-bit2.ensures c.get-bit3.ensures
+returns-in-Zz : tie.Need-returns-in-Zz
+returns-in-Zz c = let a = c.before.before.before.before.args in met_two a.axis _ _ a.key.now c.before.before.in-Zz.is c.before.get_bit-in-Zz.ensures c.get_bit-in-Zz-2.ensures
 
-pub key-met-spec : {M : Type 1} → statement M
-key-met-spec =
+pub key_met_spec : {M : Type 1} → statement M
+key_met_spec =
     tie.close
     (tie.spec
-    (λ c. search rules) (λ c κs. search rules) (λ c. search rules) (λ c κs. search rules) (λ c κs. search rules) returns returns-2)
+    (λ c. search rules) (λ c κs. search rules) (λ c. search rules) (λ c κs. search rules) (λ c κs. search rules) returns-in-Z returns-in-Zz)

@@ -1,4 +1,3 @@
--- `partner_word` meets its contract. Assumes nothing.
 use mathlib.Core.Path.{sym, ap, ◌∙◌}
 use Rattle.terms.specs.declared.Axis.{Axis}
 use Rattle.branches.specs.Probe.{flipped_word, partner_word}
@@ -6,16 +5,16 @@ use borrow.Author.Rules.{rules}
 use Rattle.branches.proofs.probe.partner_word.Statement.{statement}
 use Rattle.branches.proofs.probe.partner_word.Tie as tie
 
-returns : tie.Need-returns
+returns-in-Z : tie.Need-returns-in-Z
 unfolding partner_word
-returns c = let a = c.before.before.before.before.args in c.flipped_word.ensures ∙ ap (λ (x : Axis). partner_word a.w x a.k a.v) (sym c.before.before.axis.given.1)
+returns-in-Z c = let a = c.before.before.args in c.flipped_word.ensures ∙ ap (λ (x : Axis). partner_word a.w x a.k a.v) (sym c.before.in-Z.is)
 
-returns-2 : tie.Need-returns-2
+returns-in-Zz : tie.Need-returns-in-Zz
 unfolding partner_word
-returns-2 c = let a = c.before.before.before.before.before.args in c.flipped-word3.ensures ∙ ap (flipped_word a.w _ a.k) c.before.flipped-word2.ensures ∙ ap (λ (x : Axis). partner_word a.w x a.k a.v) (sym c.before.before.before.axis2.given.1)
+returns-in-Zz c = let a = c.before.before.before.args in c.flipped_word-in-Zz-2.ensures ∙ ap (flipped_word a.w _ a.k) c.before.flipped_word-in-Zz.ensures ∙ ap (λ (x : Axis). partner_word a.w x a.k a.v) (sym c.before.before.in-Zz.is)
 
-pub partner-word-spec : {M : Type 1} → statement M
-partner-word-spec =
+pub partner_word_spec : {M : Type 1} → statement M
+partner_word_spec =
     tie.close
     (tie.spec
-    (λ c. search rules) (λ c κs. search rules) (λ c. search rules) (λ c κs. search rules) (λ c κs. search rules) returns returns-2)
+    (λ c. search rules) (λ c κs. search rules) (λ c. search rules) (λ c κs. search rules) (λ c κs. search rules) returns-in-Z returns-in-Zz)

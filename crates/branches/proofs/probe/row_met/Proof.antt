@@ -1,4 +1,3 @@
--- `row_met` meets its contract: the row is taken as a part. Assumes nothing.
 use Prim.Native.Nat.{◌*◌}
 use mathlib.Core.Path.{ap, ◌∙◌}
 use Rattle.terms.specs.Rotation.{met_by}
@@ -10,8 +9,8 @@ use Rattle.branches.proofs.probe.row_met.Tie as tie
 returns : tie.Need-returns
 returns c = let a = c.before.before.before.args in c.key_met.ensures ∙ ap (met_by a.axis) (part_key (2 * a.w) a.i a.words.now)
 
-pub row-met-spec : {M : Type 1} → statement M
-row-met-spec =
+pub row_met_spec : {M : Type 1} → statement M
+row_met_spec =
     tie.close
     (tie.spec
     (λ c. search rules) (λ c. search rules) (λ c. search rules) (λ c. search rules) (λ c. search rules) (λ c. search rules) (λ c. search rules)

@@ -1,4 +1,3 @@
--- `row_odd` meets its contract: the row is taken as a part. Assumes nothing.
 use Prim.Native.Nat.{◌*◌, ◌%◌}
 use native.Mathlib.Omega.{arith}
 use mathlib.Core.Path.{ap, ◌∙◌}
@@ -14,11 +13,11 @@ use Rattle.branches.proofs.probe.row_odd.Tie as tie
 returns : tie.Need-returns
 returns c =
     let a = c.before.before.before.args in
-    let e = c.y-parity.ensures ∙ ap (λ (k : Key). ys_of a.w k % 2) (part_key (2 * a.w) a.i a.words.now) in
-    (odd_same c.y-parity.result (ys_of a.w (key_at (2 * a.w) a.words.now a.i)) (omega (arith, e)), omega (arith, e))
+    let e = c.y_parity.ensures ∙ ap (λ (k : Key). ys_of a.w k % 2) (part_key (2 * a.w) a.i a.words.now) in
+    (odd_same c.y_parity.result (ys_of a.w (key_at (2 * a.w) a.words.now a.i)) (omega (arith, e)), omega (arith, e))
 
-pub row-odd-spec : {M : Type 1} → statement M
-row-odd-spec =
+pub row_odd_spec : {M : Type 1} → statement M
+row_odd_spec =
     tie.close
     (tie.spec
     (λ c. search rules) (λ c. search rules) (λ c. search rules) (λ c. search rules) (λ c. search rules) (λ c. search rules) (λ c. search rules)

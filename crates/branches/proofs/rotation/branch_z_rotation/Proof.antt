@@ -1,4 +1,3 @@
--- `branch_z_rotation` meets its contract: none is met, or the terms are rotated. Assumes nothing.
 use mathlib.Core.Path.{refl, sym, ◌∙◌}
 use Rattle.terms.specs.declared.Axis.TheVariants.{Z}
 use Rattle.branches.proofs.RotatedLaws.{rotated_none}
@@ -6,15 +5,15 @@ use borrow.Author.Rules.{rules}
 use Rattle.branches.proofs.rotation.branch_z_rotation.Statement.{statement}
 use Rattle.branches.proofs.rotation.branch_z_rotation.Tie as tie
 
-returns : tie.Need-returns
-returns c =
-    let a = c.before.before.before.before.before.before.before.before.before.args in
-    let m = c.before.before.before.met-rows.ensures in
-    ((m, rotated_none a.w a.n (Z a.qubit) a.sin a.cos a.words.now a.coeffs.now (λ j. (c.before.before.before.before.before.before.before.before.slice-known.given j).fits) (sym m ∙ c.before.before.if1.true) (sym c.before.has-targets.ensures ∙ c.if2.true)), refl)
+returns-then-has_targets : tie.Need-returns-then-has_targets
+returns-then-has_targets c =
+    let a = c.before.before.before.before.before.before.before.args in
+    let m = c.before.before.before.met_rows-met.ensures in
+    ((m, rotated_none a.w a.n (Z a.qubit) a.sin a.cos a.words.now a.coeffs.now (λ j. (c.before.before.before.before.before.before.slice_known-1.given j).fits) (sym m ∙ c.before.before.if-met-eq0.true) (sym c.before.has_targets.ensures ∙ c.if-has_targets.true)), refl)
 
-pub branch-z-rotation-spec : {M : Type 1} → statement M
-branch-z-rotation-spec =
+pub branch_z_rotation_spec : {M : Type 1} → statement M
+branch_z_rotation_spec =
     tie.close
     (tie.spec
-    (λ c κs. search rules) (λ c κs. search rules) (λ c. search rules) (λ c. search rules) returns (λ c κs. search rules) (λ c. search rules) (λ c. search rules)
-    (λ c. search rules) (λ c. ((c.before.before.before.before.before.before.before.before.before.before.before.met-rows.ensures, c.before.before.before.before.before.before.branch.ensures), search rules)))
+    (λ c κs. search rules) (λ c κs. search rules) (λ c. search rules) (λ c. search rules) returns-then-has_targets (λ c κs. search rules) (λ c. search rules) (λ c. search rules)
+    (λ c. search rules) (λ c. ((c.before.before.before.before.before.before.before.before.before.before.before.met_rows-met.ensures, c.before.before.before.before.before.before.branch-count.ensures), search rules)))

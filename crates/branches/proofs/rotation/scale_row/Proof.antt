@@ -1,4 +1,3 @@
--- `scale_row` meets its contract. Assumes nothing.
 use Prim.Native.Nat.{◌*◌}
 use mathlib.Core.Path.{sym, ◌∙◌}
 use Rattle.terms.specs.Rotation.{met_by, partner_by}
@@ -7,18 +6,18 @@ use borrow.Author.Rules.{rules}
 use Rattle.branches.proofs.rotation.scale_row.Statement.{statement}
 use Rattle.branches.proofs.rotation.scale_row.Tie as tie
 
-returns : tie.Need-returns
-returns c = let m = c.before.before.before.before.before.before.before.before in
+returns-then-row_met : tie.Need-returns-then-row_met
+returns-then-row_met c = let m = c.before.before.before.before.before.before.before in
     let a = m.before.before.before.args in
     scaled_met_lem a.w (met_by a.axis) (partner_by a.w a.axis) a.sin a.cos (2 * a.w) a.i a.words.now a.coeffs.now
-    (sym m.row_met.ensures ∙ c.before.before.before.before.before.before.before.if1.true) c.before.before.before.before.before.value-at.ensures c.before.before.before.scaled.ensures c.before.before.store-value.ensures
+    (sym m.row_met.ensures ∙ c.before.before.before.before.before.before.if-row_met.true) c.before.before.before.before.before.value_at-v.ensures c.before.before.before.scaled.ensures c.before.before.store_value.ensures
 
-returns-2 : tie.Need-returns-2
-returns-2 c = let a = c.before.before.before.before.args in
-    scaled_unmet a.w (met_by a.axis) (partner_by a.w a.axis) a.sin a.cos (2 * a.w) a.i a.words.now a.coeffs.now (sym c.before.row_met.ensures ∙ c.if1.false)
+returns-else-row_met : tie.Need-returns-else-row_met
+returns-else-row_met c = let a = c.before.before.before.before.args in
+    scaled_unmet a.w (met_by a.axis) (partner_by a.w a.axis) a.sin a.cos (2 * a.w) a.i a.words.now a.coeffs.now (sym c.before.row_met.ensures ∙ c.if-row_met.false)
 
-pub scale-row-spec : {M : Type 1} → statement M
-scale-row-spec =
+pub scale_row_spec : {M : Type 1} → statement M
+scale_row_spec =
     tie.close
     (tie.spec
-    (λ c κs. search rules) (λ c κs. search rules) (λ c κs. search rules) (λ c κs. search rules) (λ c. search rules) returns returns-2)
+    (λ c κs. search rules) (λ c κs. search rules) (λ c κs. search rules) (λ c κs. search rules) (λ c. search rules) returns-then-row_met returns-else-row_met)

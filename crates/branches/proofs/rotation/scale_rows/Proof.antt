@@ -1,4 +1,3 @@
--- `scale_rows` meets its contract: the rows before i are scaled where they are met. Assumes nothing.
 use Prim.Native.Nat.{◌-◌, ◌*◌, ◌≤◌}
 use native.Mathlib.Nat.{le_refl}
 use native.Mathlib.Omega.{arith}
@@ -12,34 +11,34 @@ use Rattle.branches.proofs.RotationRows.{scaled_key}
 use Rattle.branches.proofs.rotation.scale_rows.Statement.{statement}
 use Rattle.branches.proofs.rotation.scale_rows.Tie as tie
 
-abbrev invariant-loop : tie.invariant-loop
-invariant-loop words coeffs₀ w n axis sin cos i₀ coeffs i = (i ≤ n) × Holds (2 * w) n n (map_to (scaled_met w (met_by axis) (partner_by w axis) sin cos) i (terms_in (2 * w) n words coeffs₀)) words words coeffs₀ coeffs
+abbrev invariant-loop-i : tie.invariant-loop-i
+invariant-loop-i words coeffs₀ w n axis sin cos i₀ coeffs i = (i ≤ n) × Holds (2 * w) n n (map_to (scaled_met w (met_by axis) (partner_by w axis) sin cos) i (terms_in (2 * w) n words coeffs₀)) words words coeffs₀ coeffs
 
-abbrev decreases-loop : tie.decreases-loop
-decreases-loop words coeffs₀ w n axis sin cos i₀ coeffs i = n - i
+abbrev decreases-loop-i : tie.decreases-loop-i
+decreases-loop-i words coeffs₀ w n axis sin cos i₀ coeffs i = n - i
 
-loop-holds : tie.Need-loop-init invariant-loop decreases-loop
+loop-holds : tie.Need-loop-i-init invariant-loop-i decreases-loop-i
 unfolding map_to
 loop-holds c = let a = c.before.before.args in (omega arith, hold_start (2 * a.w) a.n a.n a.words.now a.coeffs.now)
 
-scale-row-requires : tie.Need-scale-row-requires invariant-loop decreases-loop
-scale-row-requires c κs = let s = c.before.before in room_at (hold_room s.loop.invariant.1 s.before.before.before.requires) s.loop.i c.before.loop-test.true
+scale_row-requires : tie.Need-scale_row-requires invariant-loop-i decreases-loop-i
+scale_row-requires c κs = let s = c.before.before in room_at (hold_room s.loop-i.invariant.1 s.before.before.before.requires) s.loop-i.i c.before.loop-i-test.true
 
-loop-again : tie.Need-loop-preserved invariant-loop decreases-loop
+loop-again : tie.Need-loop-i-preserved invariant-loop-i decreases-loop-i
 loop-again c = let s = c.before.before.before.before.before in
     let a = s.before.before.before.args in
-    (omega arith, hold_map (scaled_met a.w (met_by a.axis) (partner_by a.w a.axis) a.sin a.cos) (scaled_key a.w (met_by a.axis) (partner_by a.w a.axis) a.sin a.cos) s.loop.i _ s.loop.invariant.1 s.before.before.before.requires (le_refl a.n) c.before.before.before.before.loop-test.true c.before.before.scale-row.ensures)
+    (omega arith, hold_map (scaled_met a.w (met_by a.axis) (partner_by a.w a.axis) a.sin a.cos) (scaled_key a.w (met_by a.axis) (partner_by a.w a.axis) a.sin a.cos) s.loop-i.i _ s.loop-i.invariant.1 s.before.before.before.requires (le_refl a.n) c.before.before.before.before.loop-i-test.true c.before.before.scale_row.ensures)
 
-same_length : tie.Need-same-length invariant-loop decreases-loop
-same_length c = c.before.loop.invariant.1.coeffs_long
+shape_of-coeffs : tie.Need-shape_of-coeffs invariant-loop-i decreases-loop-i
+shape_of-coeffs c = c.before.loop-i.invariant.1.coeffs_long
 
-returns : tie.Need-returns invariant-loop decreases-loop
+returns : tie.Need-returns invariant-loop-i decreases-loop-i
 returns c = let s = c.before in
     let a = s.before.before.before.args in
-    held_map (scaled_met a.w (met_by a.axis) (partner_by a.w a.axis) a.sin a.cos) (2 * a.w) a.n a.n s.loop.i a.words.now a.coeffs.now s.loop.invariant.1 s.loop.invariant.0 c.loop-test.false
+    held_map (scaled_met a.w (met_by a.axis) (partner_by a.w a.axis) a.sin a.cos) (2 * a.w) a.n a.n s.loop-i.i a.words.now a.coeffs.now s.loop-i.invariant.1 s.loop-i.invariant.0 c.loop-i-test.false
 
-pub scale-rows-spec : {M : Type 1} → statement M
-scale-rows-spec =
+pub scale_rows_spec : {M : Type 1} → statement M
+scale_rows_spec =
     tie.close
     (tie.spec
-    invariant-loop decreases-loop loop-holds scale-row-requires (λ c. search rules) (λ c. search rules) loop-again same_length returns)
+    invariant-loop-i decreases-loop-i loop-holds scale_row-requires (λ c. search rules) (λ c. search rules) loop-again shape_of-coeffs returns)

@@ -1,4 +1,3 @@
--- `new_row` meets its contract. Assumes nothing.
 use borrow.Author.Rules.{rules}
 use Rattle.branches.proofs.ShareLaws.{new_key, new_coeffs}
 use Rattle.branches.proofs.start.new_row.Statement.{statement}
@@ -6,11 +5,11 @@ use Rattle.branches.proofs.start.new_row.Tie as tie
 
 returns : tie.Need-returns
 returns c =
-    let s = c.before.before.before.before.before.before.before.before.before.before.before.before.before in
+    let s = c.before.before.before.before.before.before.before.before.before.before.before.before in
     let a = s.args in
-    (new_key a.size a.i a.m a.words.now s.requires.0 s.requires.1.0 c.before.before.before.before.before.before.before.copy-row.ensures, new_coeffs a.coeffs.now a.i a.m c.before.before.before.before.before.before.before.before.before.value-at.ensures c.before.before.before.plus.ensures c.before.before.store-value.ensures)
+    (new_key a.size a.i a.m a.words.now s.requires.0 s.requires.1.0 c.before.before.before.before.before.before.before.copy_row.ensures, new_coeffs a.coeffs.now a.i a.m c.before.before.before.before.before.before.before.before.before.value_at-v.ensures c.before.before.before.plus.ensures c.before.before.store_value.ensures)
 
-pub new-row-spec : {M : Type 1} → statement M
-new-row-spec =
+pub new_row_spec : {M : Type 1} → statement M
+new_row_spec =
     tie.close
     (tie.spec (λ c κs. search rules) (λ c κs. search rules) (λ c κs. search rules) (λ c κs. search rules) (λ c. search rules) (λ c. search rules) returns)

@@ -1,4 +1,3 @@
--- `signed` meets its contract. Assumes nothing.
 use lib.Ieee.{neg}
 use mathlib.Core.Path.{◌≡◌, sym, ap}
 use mathlib.Core.Bool.{Bool, cond}
@@ -7,12 +6,12 @@ use borrow.Author.Rules.{rules}
 use Rattle.branches.proofs.start.signed.Statement.{statement}
 use Rattle.branches.proofs.start.signed.Tie as tie
 
-returns : tie.Need-returns
+returns-then-quarters-gt1 : tie.Need-returns-then-quarters-gt1
 unfolding neg
-returns c = let a = c.before.args in sym (ap (λ (b : Bool). cond b (neg a.weight) a.weight) (lt-ltb _ _ c.if1.true))
+returns-then-quarters-gt1 c = let a = c.before.args in sym (ap (λ (b : Bool). cond b (neg a.weight) a.weight) (lt-ltb _ _ c.if-quarters-gt1.true))
 
-returns-2 : tie.Need-returns-2
-returns-2 c = let a = c.before.args in sym (ap (λ (b : Bool). cond b (neg a.weight) a.weight) (le-ltb _ _ c.if1.false))
+returns-else-quarters-gt1 : tie.Need-returns-else-quarters-gt1
+returns-else-quarters-gt1 c = let a = c.before.args in sym (ap (λ (b : Bool). cond b (neg a.weight) a.weight) (le-ltb _ _ c.if-quarters-gt1.false))
 
-pub signed-spec : {M : Type 1} → statement M
-signed-spec = tie.close (tie.spec returns returns-2)
+pub signed_spec : {M : Type 1} → statement M
+signed_spec = tie.close (tie.spec returns-then-quarters-gt1 returns-else-quarters-gt1)

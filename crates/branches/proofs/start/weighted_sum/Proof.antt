@@ -1,4 +1,3 @@
--- `weighted_sum` meets its contract. Assumes nothing.
 use native.Mathlib.Omega.{arith}
 use mathlib.Core.Path.{refl}
 use Rattle.branches.proofs.StartLaws.{sum_no_room, sum_no_keys, sum_no_weights, sum_few, sum_many}
@@ -6,26 +5,26 @@ use borrow.Author.Rules.{rules}
 use Rattle.branches.proofs.start.weighted_sum.Statement.{statement}
 use Rattle.branches.proofs.start.weighted_sum.Tie as tie
 
-returns : tie.Need-returns
-returns c = let a = c.before.before.before.before.before.before.before.args in (sum_no_room a.w a.lines a.keys.now a.weights.now a.words.now a.coeffs.now c.before.rows_in.ensures c.if1.true, refl)
+returns-then-rows_in-lines : tie.Need-returns-then-rows_in-lines
+returns-then-rows_in-lines c = let a = c.before.before.before.before.before.before.before.args in (sum_no_room a.w a.lines a.keys.now a.weights.now a.words.now a.coeffs.now c.before.rows_in.ensures c.if-rows_in-lines.true, refl)
 
-returns-2 : tie.Need-returns-2
-returns-2 c = let a = c.before.before.before.before.before.before.before.before.before.args in (sum_no_keys a.w a.lines a.keys.now a.weights.now a.words.now a.coeffs.now c.before.rows_of_lem.ensures c.if2.true, refl)
+returns-then-rows_of-lines : tie.Need-returns-then-rows_of-lines
+returns-then-rows_of-lines c = let a = c.before.before.before.before.before.before.before.before.before.args in (sum_no_keys a.w a.lines a.keys.now a.weights.now a.words.now a.coeffs.now c.before.rows_of.ensures c.if-rows_of-lines.true, refl)
 
-returns-3 : tie.Need-returns-3
-returns-3 c = let a = c.before.before.before.before.before.before.before.before.before.before.args in (sum_no_weights a.w a.lines a.keys.now a.weights.now a.words.now a.coeffs.now c.if3.true, refl)
+returns-then-weights-lines : tie.Need-returns-then-weights-lines
+returns-then-weights-lines c = let a = c.before.before.before.before.before.before.before.before.before.before.args in (sum_no_weights a.w a.lines a.keys.now a.weights.now a.words.now a.coeffs.now c.if-weights-lines.true, refl)
 
-returns-4 : tie.Need-returns-4
-returns-4 c =
+returns-then-lines-lt2 : tie.Need-returns-then-lines-lt2
+returns-then-lines-lt2 c =
     let a = c.before.before.before.before.before.before.before.before.before.before.before.before.before.before.before.before.before.before.args in
-    (sum_few a.w a.lines a.keys.now a.weights.now a.words.now a.coeffs.now (omega arith) (omega arith) c.before.before.before.before.before.before.before.before.if3.false c.before.before.before.before.before.start-rows.ensures c.if4.true, refl)
+    (sum_few a.w a.lines a.keys.now a.weights.now a.words.now a.coeffs.now (omega arith) (omega arith) c.before.before.before.before.before.before.before.before.if-weights-lines.false c.before.before.before.before.before.start_rows.ensures c.if-lines-lt2.true, refl)
 
-returns-5 : tie.Need-returns-5
-returns-5 c =
+returns : tie.Need-returns
+returns c =
     let a = c.before.before.before.before.before.before.before.before.before.before.before.before.before.before.before.before.before.before.before.before.before.before.before.before.before.before.before.before.args in
-    (sum_many a.w a.lines a.keys.now a.weights.now a.words.now a.coeffs.now (omega arith) (omega arith) c.before.before.before.before.before.before.before.before.before.before.before.before.before.before.before.before.before.before.if3.false c.before.before.before.before.before.before.before.before.before.before.before.before.before.before.before.start-rows.ensures c.before.before.before.before.before.before.before.before.before.before.if4.false c.before.before.before.before.before.before.coalesce.ensures.0, c.before.before.before.before.before.before.coalesce.ensures.1)
+    (sum_many a.w a.lines a.keys.now a.weights.now a.words.now a.coeffs.now (omega arith) (omega arith) c.before.before.before.before.before.before.before.before.before.before.before.before.before.before.before.before.before.before.if-weights-lines.false c.before.before.before.before.before.before.before.before.before.before.before.before.before.before.before.start_rows.ensures c.before.before.before.before.before.before.before.before.before.before.if-lines-lt2.false c.before.before.before.before.before.before.coalesce.ensures.0, c.before.before.before.before.before.before.coalesce.ensures.1)
 
-pub weighted-sum-spec : {M : Type 1} → statement M
-weighted-sum-spec =
+pub weighted_sum_spec : {M : Type 1} → statement M
+weighted_sum_spec =
     tie.close
-    (tie.spec (λ c κs. search rules) returns (λ c κs. search rules) returns-2 returns-3 (λ c κs. search rules) (λ c. search rules) (λ c. search rules) returns-4 (λ c κs. search rules) (λ c. search rules) (λ c. search rules) (λ c. search rules) returns-5)
+    (tie.spec (λ c κs. search rules) returns-then-rows_in-lines (λ c κs. search rules) returns-then-rows_of-lines returns-then-weights-lines (λ c κs. search rules) (λ c. search rules) (λ c. search rules) returns-then-lines-lt2 (λ c κs. search rules) (λ c. search rules) (λ c. search rules) (λ c. search rules) returns)
