@@ -34,10 +34,11 @@ class Names:
         self.at = {new: at[1] for (_, new), at in zip(of["needs"], of["asked_at"])}
         self.loops = [names for names, _ in of["loops"]]
         self.places = {plain(p[0]): new for p, new in zip(of["places"], of["places_by_name"])}
-        self.parent, self.step, self.steps = {}, {}, {}
+        self.parent, self.step, self.steps, self.params = {}, {}, {}, {}
         for place, name in zip(of["places"], of["places_by_name"]):
             self.parent[name] = self.places[plain(place[1])] if place[1] else None
             self.step[name] = place[2][1]
+            self.params[name] = of["params"].get(place[3], [])
             if place[2][0]:
                 self.steps.setdefault(plain(place[2][0]), []).append(place[2][1])
         # an arm of a match: its step, how many of the older places it is, and its fields with what they were
@@ -200,7 +201,12 @@ def walked(body, root, place, names, said):
             # what the scripts before took for another name
             field = next((f for f in (OTHERWISE.get(field, field), field.lower(), re.sub("_lem$", "", field)) if names.steps.get(plain(f))), field)
         i, field, taken = names.up(way, field, rest, old + count)
-        tail = "".join("." + f for f in rest[taken:])
+        rest = rest[taken:]
+        if i is not None and rest[:1] == ["auto"] and len(rest) > 1:
+            # what stays of an argument: by the parameter's place before, by its name now
+            at, named = rest[1:].count("1"), names.params[way[i]]
+            rest = ["auto", named[at]] if at < len(named) and set(rest[1:]) <= {"0", "1"} else rest
+        tail = "".join("." + f for f in rest)
         if i is None:
             said.append("%s.%s at %s" % (m[1], field, place))
             return m[1] + m[2] + "." + field + tail

@@ -1,14 +1,13 @@
--- `ending` meets its contract. Assumes nothing.
 use mathlib.Core.Path.{sym, ◌∙◌}
 use borrow.Author.Rules.{rules}
 use Rattle.turns.proofs.finish.ending.Statement.{statement}
 use Rattle.turns.proofs.finish.ending.Tie as tie
 
-returns : tie.Need-returns
-returns c = rw (c.before.if1.true, sym c.before.before.is_finite.ensures ∙ c.if2.true)
+returns-then-finite : tie.Need-returns-then-finite
+returns-then-finite c = rw (c.before.if-ok.true, sym c.before.before.is_finite-finite.ensures ∙ c.if-finite.true)
 
-returns-2 : tie.Need-returns-2
-returns-2 c = rw (c.before.if1.true, sym c.before.before.is_finite.ensures ∙ c.if2.false)
+returns-then-ok : tie.Need-returns-then-ok
+returns-then-ok c = rw (c.before.if-ok.true, sym c.before.before.is_finite-finite.ensures ∙ c.if-finite.false)
 
-pub ending-spec : {M : Type 1} → statement M
-ending-spec = tie.close (tie.spec (λ c κs. search rules) returns returns-2 (λ c. rw c.if1.false))
+pub ending_spec : {M : Type 1} → statement M
+ending_spec = tie.close (tie.spec (λ c κs. search rules) returns-then-finite returns-then-ok (λ c. rw c.if-ok.false))

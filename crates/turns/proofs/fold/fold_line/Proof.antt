@@ -1,4 +1,3 @@
--- `fold_line` meets its contract. Assumes nothing.
 use Prim.Native.Nat.{◌+◌}
 use native.Mathlib.Omega.{arith}
 use Rattle.ops.specs.OpList.{op_list}
@@ -8,33 +7,33 @@ use borrow.Author.Rules.{rules}
 use Rattle.turns.proofs.fold.fold_line.Statement.{statement}
 use Rattle.turns.proofs.fold.fold_line.Tie as tie
 
+returns-in_default : tie.Need-returns-in_default
+returns-in_default c = let s = c.before.before.before.before.before.before.before.before.before in
+    let a = s.args in
+    let p = s.requires in
+    line_refused a.qubits a.limits a.keys.now a.weights.now (a.i + 1) (op_list a.n a.codes.now a.reals.now) a.marks.now a.i a.words.now a.coeffs.now a.w p.0 (omega arith) p.1 a.at _ c.in_default.is
+
 returns : tie.Need-returns
-returns c = let s = c.before.before.before.before.before.before.before.before.before.before in
+returns c = let s = c.before.before.before.before.before.before.before.before.before.before.before.before.before.before.before.before.before.before.before.before.before in
     let a = s.args in
     let p = s.requires in
-    line_refused a.qubits a.limits a.keys.now a.weights.now (a.i + 1) (op_list a.n a.codes.now a.reals.now) a.marks.now a.i a.words.now a.coeffs.now a.w p.0 (omega arith) p.1 a.at _ c.enum_told.given.1
+    line_added a.qubits a.limits a.keys.now a.weights.now (a.i + 1) (op_list a.n a.codes.now a.reals.now) a.marks.now a.i a.words.now a.coeffs.now a.w p.0 (omega arith) p.1 a.at _ _ c.before.before.before.before.before.before.before.before.before.before.before.before.in-Held.is c.before.before.before.before.before.before.before.before.run_held-end.ensures c.before.weight_at.ensures c.add_line.ensures
 
-returns-2 : tie.Need-returns-2
-returns-2 c = let s = c.before.before.before.before.before.before.before.before.before.before.before.before.before.before.before.before.before.before.before.before.before.before.before in
-    let a = s.args in
-    let p = s.requires in
-    line_added a.qubits a.limits a.keys.now a.weights.now (a.i + 1) (op_list a.n a.codes.now a.reals.now) a.marks.now a.i a.words.now a.coeffs.now a.w p.0 (omega arith) p.1 a.at _ _ c.before.before.before.before.before.before.before.before.before.before.before.before.before.at.given.1 c.before.before.before.before.before.before.before.before.run-held.ensures c.before.weight-at.ensures c.add-line.ensures
-
-run-held-requires : tie.Need-run-held-requires
-run-held-requires c κs = let s = c.before.before.before.before.before.before.before.before.before.before.before.before.before.before in
+run_held-end-requires : tie.Need-run_held-end-requires
+run_held-end-requires c κs = let s = c.before.before.before.before.before.before.before.before.before.before.before.before in
     let a = s.args in
     let p = s.requires in
     line_given a.qubits a.limits a.keys.now a.weights.now (a.i + 1) (op_list a.n a.codes.now a.reals.now) a.marks.now a.i a.words.now a.coeffs.now a.w p.0 (omega arith) p.1
 
-add-line-requires : tie.Need-add-line-requires
-add-line-requires c κs = let s = c.before.before.before.before.before.before.before.before.before.before.before.before.before.before.before.before.before.before.before.before.before.before in
+add_line-requires : tie.Need-add_line-requires
+add_line-requires c κs = let s = c.before.before.before.before.before.before.before.before.before.before.before.before.before.before.before.before.before.before.before.before in
     let a = s.args in
     let p = s.requires in
-    line_slack a.qubits a.limits a.keys.now a.weights.now (a.i + 1) (op_list a.n a.codes.now a.reals.now) a.marks.now a.i a.words.now a.coeffs.now a.w p.0 (omega arith) p.1 a.at _ _ (short_ops a.n a.codes.now a.reals.now) c.before.before.before.before.before.before.before.before.before.before.before.before.at.given.1 p.2 c.before.before.before.before.before.before.before.run-held.ensures
+    line_slack a.qubits a.limits a.keys.now a.weights.now (a.i + 1) (op_list a.n a.codes.now a.reals.now) a.marks.now a.i a.words.now a.coeffs.now a.w p.0 (omega arith) p.1 a.at _ _ (short_ops a.n a.codes.now a.reals.now) c.before.before.before.before.before.before.before.before.before.before.before.in-Held.is p.2 c.before.before.before.before.before.before.before.run_held-end.ensures
 
-pub fold-line-spec : {M : Type 1} → statement M
-fold-line-spec =
+pub fold_line_spec : {M : Type 1} → statement M
+fold_line_spec =
     tie.close
     (tie.spec
-    (λ c. search rules) (λ c. search rules) returns run-held-requires (λ c κs. search rules) add-line-requires (λ c. search rules)
-    (λ c. search rules) (λ c. search rules) returns-2)
+    (λ c. search rules) (λ c. search rules) returns-in_default run_held-end-requires (λ c κs. search rules) add_line-requires (λ c. search rules)
+    (λ c. search rules) (λ c. search rules) returns)

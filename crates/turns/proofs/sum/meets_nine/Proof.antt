@@ -1,4 +1,3 @@
--- `meets_nine` meets its contract. Assumes nothing.
 use mathlib.Core.Path.{sym, ap}
 use mathlib.Core.Bool.{Bool, ◌&&◌}
 use lib.Dec.{ltb}
@@ -8,14 +7,14 @@ use borrow.Author.Rules.{rules}
 use Rattle.turns.proofs.sum.meets_nine.Statement.{statement}
 use Rattle.turns.proofs.sum.meets_nine.Tie as tie
 
-returns : tie.Need-returns
-returns c = let a = c.before.before.before.before.args in nine_failed a.lines a.end _ _ c.before.before.end.given.1 (ap (λ (b : Bool). b && ltb 1 a.lines) (sym (eq-eqb _ _ c.if1.true)))
+returns-then-q-eq9 : tie.Need-returns-then-q-eq9
+returns-then-q-eq9 c = let a = c.before.before.args in nine_failed a.lines a.end _ _ c.before.in-Failed.is (ap (λ (b : Bool). b && ltb 1 a.lines) (sym (eq-eqb _ _ c.if-q-eq9.true)))
 
-returns-2 : tie.Need-returns-2
-returns-2 c = let a = c.before.before.before.before.args in nine_failed a.lines a.end _ _ c.before.before.end.given.1 (ap (λ (b : Bool). b && ltb 1 a.lines) (sym (ne_eqb _ _ c.if1.false)))
+returns-else-q-eq9 : tie.Need-returns-else-q-eq9
+returns-else-q-eq9 c = let a = c.before.before.args in nine_failed a.lines a.end _ _ c.before.in-Failed.is (ap (λ (b : Bool). b && ltb 1 a.lines) (sym (ne_eqb _ _ c.if-q-eq9.false)))
 
-pub meets-nine-spec : {M : Type 1} → statement M
-meets-nine-spec =
+pub meets_nine_spec : {M : Type 1} → statement M
+meets_nine_spec =
     tie.close
     (tie.spec
-    (λ c. search rules) (λ c. search rules) returns returns-2 (λ c. search rules))
+    (λ c. search rules) (λ c. search rules) returns-then-q-eq9 returns-else-q-eq9 (λ c. search rules))

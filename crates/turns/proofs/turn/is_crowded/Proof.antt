@@ -1,4 +1,3 @@
--- `is_crowded` meets its contract. Assumes nothing.
 use mathlib.Core.Path.{sym, ap}
 use mathlib.Core.Bool.{Bool, ◌&&◌}
 use lib.Dec.{ltb}
@@ -6,14 +5,14 @@ use borrow.Author.Tests.{lt-ltb, le-ltb}
 use Rattle.turns.proofs.turn.is_crowded.Statement.{statement}
 use Rattle.turns.proofs.turn.is_crowded.Tie as tie
 
-returns : tie.Need-returns
-returns c = let a = c.before.before.before.args in ap (λ (b : Bool). b && ltb a.limits.max_terms a.n) (sym (lt-ltb 0 a.limits.max_terms c.before.if1.true))
+returns-then-limits-gt0 : tie.Need-returns-then-limits-gt0
+returns-then-limits-gt0 c = let a = c.before.before.before.args in ap (λ (b : Bool). b && ltb a.limits.max_terms a.n) (sym (lt-ltb 0 a.limits.max_terms c.before.if-limits-gt0.true))
 
-returns-2 : tie.Need-returns-2
-returns-2 c = let a = c.before.before.args in ap (λ (b : Bool). b && ltb a.limits.max_terms a.n) (sym (le-ltb 0 a.limits.max_terms c.if1.false))
+returns-else-limits-gt0 : tie.Need-returns-else-limits-gt0
+returns-else-limits-gt0 c = let a = c.before.before.args in ap (λ (b : Bool). b && ltb a.limits.max_terms a.n) (sym (le-ltb 0 a.limits.max_terms c.if-limits-gt0.false))
 
-pub is-crowded-spec : {M : Type 1} → statement M
-is-crowded-spec =
+pub is_crowded_spec : {M : Type 1} → statement M
+is_crowded_spec =
     tie.close
     (tie.spec
-    returns returns-2)
+    returns-then-limits-gt0 returns-else-limits-gt0)
