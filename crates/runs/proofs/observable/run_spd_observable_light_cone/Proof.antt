@@ -1,4 +1,3 @@
--- `run_spd_observable_light_cone` meets its contract. Assumes nothing.
 use mathlib.Core.Path.{◌≡◌, ◌∙◌, ap}
 use mathlib.Core.Bool.{true, false}
 use Prim.Native.Nat.{ℕ}
@@ -20,12 +19,12 @@ binary_epsilon s = search rules
 
 returns : tie.Need-returns
 returns c = let a = c.before.before.before.before.before.before.before.before.before.before.before.before.before.before.before.before.before.before.before.before.before.before.args in
-    cone_ran a.qubits a.limits a.keys.now a.weights.now a.lines a.codes.now a.reals.now a.n (record { weights = λ j. c.before.before.before.before.before.before.before.before.before.before.before.before.before.before.before.before.before.before.before.before.shared-slice-known2.given j; reals = λ j. c.before.before.before.before.before.before.before.before.before.before.before.before.before.before.before.before.before.before.shared-slice-known4.given j; epsilon = holds (binary_epsilon c.before.before.before.before.before.before.before.before.before.before.before.before.before.before.before.before.before.before.before.before.before.before) })
+    cone_ran a.qubits a.limits a.keys.now a.weights.now a.lines a.codes.now a.reals.now a.n (record { weights = λ j. c.before.before.before.before.before.before.before.before.before.before.before.before.before.before.before.before.before.before.before.before.shared_slice_known-2-1.given j; reals = λ j. c.before.before.before.before.before.before.before.before.before.before.before.before.before.before.before.before.before.before.shared_slice_known-4-1.given j; epsilon = holds (binary_epsilon c.before.before.before.before.before.before.before.before.before.before.before.before.before.before.before.before.before.before.before.before.before.before) })
     (sum_marked a.qubits a.limits a.keys.now a.weights.now a.lines a.codes.now a.reals.now a.n _ (replicate 4096 false) (length_cone _ (op_list a.n a.codes.now a.reals.now)) (few_ops a.n a.codes.now a.reals.now)
-    (c.before.before.before.before.before.before.before.before.before.before.before.before.inverse-light-cone.ensures.by_set ∙ ap (λ (w : ℕ). overlay (set_marks (letters_in w a.keys.now) (op_list a.n a.codes.now a.reals.now)) (replicate 4096 false)) c.before.before.before.before.before.before.before.before.before.before.before.before.before.before.width.ensures) c.before.before.before.before.before.before.run-sum.ensures)
+    (c.before.before.before.before.before.before.before.before.before.before.before.before.inverse_light_cone.ensures.by_set ∙ ap (λ (w : ℕ). overlay (set_marks (letters_in w a.keys.now) (op_list a.n a.codes.now a.reals.now)) (replicate 4096 false)) c.before.before.before.before.before.before.before.before.before.before.before.before.before.before.width.ensures) c.before.before.before.before.before.before.run_sum.ensures)
 
-pub run-spd-observable-light-cone-spec : {M : Type 1} → statement M
-run-spd-observable-light-cone-spec =
+pub run_spd_observable_light_cone_spec : {M : Type 1} → statement M
+run_spd_observable_light_cone_spec =
     tie.close
     (tie.spec
     (λ c κs. search rules) (λ c. search rules) (λ c κs. search rules) (λ c. search rules) (λ c κs. search rules) (λ c. search rules)

@@ -1,4 +1,3 @@
--- `run_spd_weighted_observable_with` meets its contract. Assumes nothing.
 use mathlib.Core.Path.{◌≡◌}
 use mathlib.Core.Bool.{true, false}
 use lib.ListN.{replicate}
@@ -18,12 +17,12 @@ returns : tie.Need-returns
 returns c = let a = c.before.before.before.before.before.before.before.before.before.before.before.before.before.before.before.before.before.before.before.before.before.args in
     record {
       ran = sum_marked a.qubits a.limits a.keys.now a.weights.now a.lines a.codes.now a.reals.now a.n _ (replicate 4096 false) (all_long (op_list a.n a.codes.now a.reals.now)) (few_ops a.n a.codes.now a.reals.now)
-          c.before.before.before.before.before.before.before.before.before.before.before.before.full-marks.ensures c.before.before.before.before.before.before.run-sum.ensures;
-      slices = (record { weights = λ j. c.before.before.before.before.before.before.before.before.before.before.before.before.before.before.before.before.before.before.before.shared-slice-known2.given j; reals = λ j. c.before.before.before.before.before.before.before.before.before.before.before.before.before.before.before.before.before.shared-slice-known4.given j; epsilon = holds (binary_epsilon c.before.before.before.before.before.before.before.before.before.before.before.before.before.before.before.before.before.before.before.before.before) });
+          c.before.before.before.before.before.before.before.before.before.before.before.before.full_marks.ensures c.before.before.before.before.before.before.run_sum.ensures;
+      slices = (record { weights = λ j. c.before.before.before.before.before.before.before.before.before.before.before.before.before.before.before.before.before.before.before.shared_slice_known-2-1.given j; reals = λ j. c.before.before.before.before.before.before.before.before.before.before.before.before.before.before.before.before.before.shared_slice_known-4-1.given j; epsilon = holds (binary_epsilon c.before.before.before.before.before.before.before.before.before.before.before.before.before.before.before.before.before.before.before.before.before) });
     }
 
-pub run-spd-weighted-observable-with-spec : {M : Type 1} → statement M
-run-spd-weighted-observable-with-spec =
+pub run_spd_weighted_observable_with_spec : {M : Type 1} → statement M
+run_spd_weighted_observable_with_spec =
     tie.close
     (tie.spec
     (λ c. search rules) (λ c κs. search rules) (λ c. search rules) (λ c κs. search rules) (λ c. search rules) (λ c. search rules)
