@@ -13,7 +13,7 @@ import sys
 
 WORD = r"[^\s(){}.;,@\"«»\[\]]+"
 TOKEN = re.compile(r"--[^\n]*|\.?" + WORD)
-FIELDS = {"good": "well_formed", "well-formed": "well_formed"}
+FIELDS = {"good": "well_formed", "well-formed": "well_formed", "type-inv": "type_inv"}
 AT_START = {"args", "requires", "well_formed", "ranges", "utf8", "lifetimes"}
 OTHERWISE = {"type_size": "size_of"}
 # Below these a field is a name of the source.

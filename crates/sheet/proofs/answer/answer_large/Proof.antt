@@ -1,4 +1,3 @@
--- `answer_large` meets its contract: its table has room. Assumes nothing.
 use mathlib.Core.Path.{refl}
 use Prim.Native.Nat.{ℕ}
 use native.Mathlib.Omega.{arith}
@@ -11,8 +10,8 @@ use borrow.Author.Rules.{rules}
 use Rattle.sheet.proofs.answer.answer_large.Statement.{statement}
 use Rattle.sheet.proofs.answer.answer_large.Tie as tie
 
-answer-in-requires : tie.Need-answer-in-requires
-answer-in-requires c κs = let a = c.before.before.before.before.before.before.before.before.before.before.before.before.before.args in let e = c.before.before.before.before.before.before.before.before.before.before.before.before.before.requires in let k = few_ops a.head (parts newline a.s.now) e in let t = few_terms a.head (parts newline a.s.now) e in (
+answer_in-requires : tie.Need-answer_in-requires
+answer_in-requires c κs = let a = c.before.before.before.before.before.before.before.before.before.before.before.before.before.args in let e = c.before.before.before.before.before.before.before.before.before.before.before.before.before.requires in let k = few_ops a.head (parts newline a.s.now) e in let t = few_terms a.head (parts newline a.s.now) e in (
   e,
   (
     record { long = omega (arith, length-replicate {A = ℕ} 12288 0, k); long' = omega (arith, length-replicate {A = Float} 12288 zero64, k) },
@@ -21,11 +20,11 @@ answer-in-requires c κs = let a = c.before.before.before.before.before.before.b
 )
 
 returns : tie.Need-returns
-returns c = c.before.before.before.before.before.before.before.before.before.before.before.before.answer-in.ensures
+returns c = c.before.before.before.before.before.before.before.before.before.before.before.before.answer_in.ensures
 
-pub answer-large-spec : {M : Type 1} → statement M
-answer-large-spec =
+pub answer_large_spec : {M : Type 1} → statement M
+answer_large_spec =
     tie.close
     (tie.spec
-    (λ c. search rules) (λ c. search rules) (λ c. search rules) (λ c. search rules) answer-in-requires (λ c. search rules) (λ c. search rules)
+    (λ c. search rules) (λ c. search rules) (λ c. search rules) (λ c. search rules) answer_in-requires (λ c. search rules) (λ c. search rules)
     (λ c. search rules) (λ c. search rules) returns)

@@ -1,4 +1,3 @@
--- `answer_small` meets its contract: its table has room. Assumes nothing.
 use mathlib.Core.Path.{refl}
 use Prim.Native.Nat.{ℕ}
 use native.Mathlib.Omega.{arith}
@@ -11,8 +10,8 @@ use borrow.Author.Rules.{rules}
 use Rattle.sheet.proofs.answer.answer_small.Statement.{statement}
 use Rattle.sheet.proofs.answer.answer_small.Tie as tie
 
-answer-in-requires : tie.Need-answer-in-requires
-answer-in-requires c κs = let a = c.before.before.before.before.before.before.before.before.before.before.before.before.before.args in let e = c.before.before.before.before.before.before.before.before.before.before.before.before.before.requires.0 in let k = c.before.before.before.before.before.before.before.before.before.before.before.before.before.requires.1.0 in let t = c.before.before.before.before.before.before.before.before.before.before.before.before.before.requires.1.1 in (
+answer_in-requires : tie.Need-answer_in-requires
+answer_in-requires c κs = let a = c.before.before.before.before.before.before.before.before.before.before.before.before.before.args in let e = c.before.before.before.before.before.before.before.before.before.before.before.before.before.requires.0 in let k = c.before.before.before.before.before.before.before.before.before.before.before.before.before.requires.1.0 in let t = c.before.before.before.before.before.before.before.before.before.before.before.before.before.requires.1.1 in (
   e,
   (
     record { long = omega (arith, length-replicate {A = ℕ} 384 0, k); long' = omega (arith, length-replicate {A = Float} 384 zero64, k) },
@@ -21,11 +20,11 @@ answer-in-requires c κs = let a = c.before.before.before.before.before.before.b
 )
 
 returns : tie.Need-returns
-returns c = c.before.before.before.before.before.before.before.before.before.before.before.before.answer-in.ensures
+returns c = c.before.before.before.before.before.before.before.before.before.before.before.before.answer_in.ensures
 
-pub answer-small-spec : {M : Type 1} → statement M
-answer-small-spec =
+pub answer_small_spec : {M : Type 1} → statement M
+answer_small_spec =
     tie.close
     (tie.spec
-    (λ c. search rules) (λ c. search rules) (λ c. search rules) (λ c. search rules) answer-in-requires (λ c. search rules) (λ c. search rules)
+    (λ c. search rules) (λ c. search rules) (λ c. search rules) (λ c. search rules) answer_in-requires (λ c. search rules) (λ c. search rules)
     (λ c. search rules) (λ c. search rules) returns)

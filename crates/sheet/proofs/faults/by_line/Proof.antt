@@ -1,4 +1,3 @@
--- `by_line` meets its contract. Assumes nothing.
 use Prim.Native.Nat.{◌+◌}
 use Rattle.layout.specs.Layout.{term_lines}
 use Rattle.sheet.specs.Questions.{term_fault, op_fault, first_fault}
@@ -14,9 +13,9 @@ returns : tie.Need-returns
 returns c =
     let at = c.before.before.before.before.before in
     let h = at.args.head in
-    c.first-term-fault.ensures
+    c.first_term_fault.ensures
     ∙ ap (first_fault (term_fault h) 7 (term_lines h (parts newline at.args.s.now)))
-    (c.before.first-op-fault.ensures ∙ ap (λ (os : List Op). first_fault (op_fault h) (8 + h.terms) os at.args.rest) at.requires.table)
+    (c.before.first_op_fault-later.ensures ∙ ap (λ (os : List Op). first_fault (op_fault h) (8 + h.terms) os at.args.rest) at.requires.table)
 
-pub by-line-spec : {M : Type 1} → statement M
-by-line-spec = tie.close (tie.spec (λ c. search rules) (λ c κs. search rules) (λ c κs. search rules) returns)
+pub by_line_spec : {M : Type 1} → statement M
+by_line_spec = tie.close (tie.spec (λ c. search rules) (λ c κs. search rules) (λ c κs. search rules) returns)

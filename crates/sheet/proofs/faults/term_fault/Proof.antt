@@ -1,4 +1,3 @@
--- `term_fault` meets its contract. Assumes nothing.
 use Rattle.lines.specs.TermLines.{line_on, qubits_in}
 use Rattle.sheet.proofs.FaultLaws.{fault_by_set}
 use Rattle.sheet.specs.Questions.{fault_of}
@@ -11,8 +10,8 @@ returns : tie.Need-returns
 unfolding line_on
 returns c =
     let at = c.before.before.before.before in
-    c.fault-of.ensures ∙ ap₂ fault_of c.before.before.factors-below.ensures c.before.factors-distinct.ensures.0
+    c.fault_of.ensures ∙ ap₂ fault_of c.before.before.factors_below.ensures c.before.factors_distinct.ensures.0
     ∙ fault_by_set at.args.head.qubits (qubits_in (line_on at.args.l.now).factors) at.requires
 
-pub term-fault-spec : {M : Type 1} → statement M
-term-fault-spec = tie.close (tie.spec (λ c κs. search rules) (λ c κs. search rules) (λ c κs. search rules) returns)
+pub term_fault_spec : {M : Type 1} → statement M
+term_fault_spec = tie.close (tie.spec (λ c κs. search rules) (λ c κs. search rules) (λ c κs. search rules) returns)

@@ -1,4 +1,3 @@
--- `count_fits` meets its contract. Assumes nothing.
 use Rattle.ops.specs.declared.Run.{Run}
 use Rattle.sheet.proofs.HeadLaws.{by_run}
 use Rattle.sheet.specs.Questions.{count_fits}
@@ -7,11 +6,11 @@ use borrow.Author.Rules.{rules}
 use Rattle.sheet.proofs.headtests.count_fits.Statement.{statement}
 use Rattle.sheet.proofs.headtests.count_fits.Tie as tie
 
-returns-2 : tie.Need-returns-2
-returns-2 c = by_run (λ (r : Run). count_fits r c.before.before.args.terms) _ _ _ c.enum-told2.given.1 refl
+returns-in-Cone : tie.Need-returns-in-Cone
+returns-in-Cone c = by_run (λ (r : Run). count_fits r c.before.args.terms) _ _ _ c.in-Cone.is refl
 
-returns-3 : tie.Need-returns-3
-returns-3 c = by_run (λ (r : Run). count_fits r c.before.before.args.terms) _ _ _ c.enum-told3.given.1 refl
+returns-in-All : tie.Need-returns-in-All
+returns-in-All c = by_run (λ (r : Run). count_fits r c.before.args.terms) _ _ _ c.in-All.is refl
 
-pub count-fits-spec : {M : Type 1} → statement M
-count-fits-spec = tie.close (tie.spec (λ c. search rules) (λ c. search rules) (λ c. search rules) (λ c. search rules) (λ c. search rules) (λ c. search rules) returns-2 returns-3 (λ c. search rules) (λ c. search rules))
+pub count_fits_spec : {M : Type 1} → statement M
+count_fits_spec = tie.close (tie.spec (λ c. search rules) (λ c. search rules) (λ c. search rules) (λ c. search rules) (λ c. search rules) (λ c. search rules) returns-in-Cone returns-in-All (λ c. search rules) (λ c. search rules))

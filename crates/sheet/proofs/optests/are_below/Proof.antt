@@ -1,4 +1,3 @@
--- `are_below` meets its contract. Assumes nothing.
 use Rattle.lines.specs.TermLines.{all_below}
 use Rattle.ops.specs.Task.{every}
 use Rattle.sheet.proofs.OpLaws.{by_targets, every_one, every_two}
@@ -7,15 +6,15 @@ use borrow.Author.Rules.{rules}
 use Rattle.sheet.proofs.optests.are_below.Statement.{statement}
 use Rattle.sheet.proofs.optests.are_below.Tie as tie
 
-returns : tie.Need-returns
+returns-in-Nothing : tie.Need-returns-in-Nothing
 unfolding every
-returns c = by_targets (all_below _) _ _ _ c.enum_told.given.1 refl
+returns-in-Nothing c = by_targets (all_below _) _ _ _ c.in-Nothing.is refl
 
-returns-2 : tie.Need-returns-2
-returns-2 c = by_targets (all_below _) _ _ _ c.before.t.given.1 (every_one _ _ _ refl)
+returns-in-One : tie.Need-returns-in-One
+returns-in-One c = by_targets (all_below _) _ _ _ c.in-One.is (every_one _ _ _ refl)
 
-returns-3 : tie.Need-returns-3
-returns-3 c = by_targets (all_below _) _ _ _ c.before.before.t2.given.1 (every_two _ _ _ _ _ _ refl refl c.both.ensures)
+returns-in-Two : tie.Need-returns-in-Two
+returns-in-Two c = by_targets (all_below _) _ _ _ c.before.in-Two.is (every_two _ _ _ _ _ _ refl refl c.both.ensures)
 
-pub are-below-spec : {M : Type 1} → statement M
-are-below-spec = tie.close (tie.spec (λ c. search rules) (λ c. search rules) (λ c. search rules) (λ c κs. search rules) returns returns-2 returns-3)
+pub are_below_spec : {M : Type 1} → statement M
+are_below_spec = tie.close (tie.spec (λ c. search rules) (λ c. search rules) (λ c. search rules) (λ c κs. search rules) returns-in-Nothing returns-in-One returns-in-Two)

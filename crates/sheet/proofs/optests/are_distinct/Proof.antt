@@ -1,4 +1,3 @@
--- `are_distinct` meets its contract. Assumes nothing.
 use Rattle.ops.specs.Task.{distinct_targets}
 use Rattle.sheet.proofs.OpLaws.{by_targets}
 use mathlib.Core.Path.{refl}
@@ -6,8 +5,8 @@ use borrow.Author.Rules.{rules}
 use Rattle.sheet.proofs.optests.are_distinct.Statement.{statement}
 use Rattle.sheet.proofs.optests.are_distinct.Tie as tie
 
-returns-3 : tie.Need-returns-3
-returns-3 c = by_targets distinct_targets _ _ _ c.before.t.given.1 refl
+returns-in-Two : tie.Need-returns-in-Two
+returns-in-Two c = by_targets distinct_targets _ _ _ c.in-Two.is refl
 
-pub are-distinct-spec : {M : Type 1} → statement M
-are-distinct-spec = tie.close (tie.spec (λ c. search rules) (λ c. search rules) (λ c. search rules) (λ c. search rules) (λ c. search rules) returns-3)
+pub are_distinct_spec : {M : Type 1} → statement M
+are_distinct_spec = tie.close (tie.spec (λ c. search rules) (λ c. search rules) (λ c. search rules) (λ c. search rules) (λ c. search rules) returns-in-Two)

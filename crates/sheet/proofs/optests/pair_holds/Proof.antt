@@ -1,4 +1,3 @@
--- `pair_holds` meets its contract. Assumes nothing.
 use Rattle.ops.specs.Task.{pair_holds}
 use Rattle.sheet.proofs.OpLaws.{by_op}
 use mathlib.Core.Path.{refl}
@@ -6,44 +5,44 @@ use borrow.Author.Rules.{rules}
 use Rattle.sheet.proofs.optests.pair_holds.Statement.{statement}
 use Rattle.sheet.proofs.optests.pair_holds.Tie as tie
 
-returns : tie.Need-returns
-returns c = by_op pair_holds _ _ _ c.enum_told.given.1 refl
+returns-in-Native : tie.Need-returns-in-Native
+returns-in-Native c = by_op pair_holds _ _ _ c.in-Native.is refl
 
-returns-2 : tie.Need-returns-2
-returns-2 c = by_op pair_holds _ _ _ c.enum-told2.given.1 refl
+returns-in-T : tie.Need-returns-in-T
+returns-in-T c = by_op pair_holds _ _ _ c.in-T.is refl
 
-returns-3 : tie.Need-returns-3
-returns-3 c = by_op pair_holds _ _ _ c.enum-told3.given.1 refl
+returns-in-Tdg : tie.Need-returns-in-Tdg
+returns-in-Tdg c = by_op pair_holds _ _ _ c.in-Tdg.is refl
 
-returns-4 : tie.Need-returns-4
-returns-4 c = by_op pair_holds _ _ _ c.before.before.op.given.1 c.is-angle.ensures
+returns-in-Rz : tie.Need-returns-in-Rz
+returns-in-Rz c = by_op pair_holds _ _ _ c.before.in-Rz.is c.is_angle.ensures
 
-returns-5 : tie.Need-returns-5
-returns-5 c = by_op pair_holds _ _ _ c.before.before.op2.given.1 c.is-angle2.ensures
+returns-in-P : tie.Need-returns-in-P
+returns-in-P c = by_op pair_holds _ _ _ c.before.in-P.is c.is_angle-in-P.ensures
 
-returns-6 : tie.Need-returns-6
-returns-6 c = by_op pair_holds _ _ _ c.before.before.op3.given.1 c.is-angle3.ensures
+returns-in-Rzz : tie.Need-returns-in-Rzz
+returns-in-Rzz c = by_op pair_holds _ _ _ c.before.in-Rzz.is c.is_angle-in-Rzz.ensures
 
-returns-7 : tie.Need-returns-7
-returns-7 c = by_op pair_holds _ _ _ c.before.before.op4.given.1 c.is-mix.ensures
+returns-in-Pauli : tie.Need-returns-in-Pauli
+returns-in-Pauli c = by_op pair_holds _ _ _ c.before.in-Pauli.is c.is_mix.ensures
 
-returns-8 : tie.Need-returns-8
-returns-8 c = by_op pair_holds _ _ _ c.enum-told4.given.1 refl
+returns-in-Depol : tie.Need-returns-in-Depol
+returns-in-Depol c = by_op pair_holds _ _ _ c.in-Depol.is refl
 
-returns-9 : tie.Need-returns-9
-returns-9 c = by_op pair_holds _ _ _ c.enum-told5.given.1 refl
+returns-in-Damp : tie.Need-returns-in-Damp
+returns-in-Damp c = by_op pair_holds _ _ _ c.in-Damp.is refl
 
-returns-10 : tie.Need-returns-10
-returns-10 c = by_op pair_holds _ _ _ c.enum-told6.given.1 refl
+returns-in-Phase : tie.Need-returns-in-Phase
+returns-in-Phase c = by_op pair_holds _ _ _ c.in-Phase.is refl
 
-returns-11 : tie.Need-returns-11
-returns-11 c = by_op pair_holds _ _ _ c.enum-told7.given.1 refl
+returns-in-Thermal : tie.Need-returns-in-Thermal
+returns-in-Thermal c = by_op pair_holds _ _ _ c.in-Thermal.is refl
 
-returns-12 : tie.Need-returns-12
-returns-12 c = by_op pair_holds _ _ _ c.enum-told8.given.1 refl
+returns-in-Depol2 : tie.Need-returns-in-Depol2
+returns-in-Depol2 c = by_op pair_holds _ _ _ c.in-Depol2.is refl
 
-returns-13 : tie.Need-returns-13
-returns-13 c = by_op pair_holds _ _ _ c.enum-told9.given.1 refl
+returns-in-Barrier : tie.Need-returns-in-Barrier
+returns-in-Barrier c = by_op pair_holds _ _ _ c.in-Barrier.is refl
 
-pub pair-holds-spec : {M : Type 1} → statement M
-pair-holds-spec = tie.close (tie.spec (λ c. search rules) (λ c. search rules) (λ c. search rules) (λ c. search rules) (λ c κs. search rules) (λ c. search rules) (λ c κs. search rules) (λ c. search rules) (λ c κs. search rules) (λ c. search rules) (λ c κs. search rules) (λ c. search rules) (λ c. search rules) (λ c. search rules) (λ c. search rules) (λ c. search rules) (λ c. search rules) returns returns-2 returns-3 returns-4 returns-5 returns-6 returns-7 returns-8 returns-9 returns-10 returns-11 returns-12 returns-13)
+pub pair_holds_spec : {M : Type 1} → statement M
+pair_holds_spec = tie.close (tie.spec (λ c. search rules) (λ c. search rules) (λ c. search rules) (λ c. search rules) (λ c κs. search rules) (λ c. search rules) (λ c κs. search rules) (λ c. search rules) (λ c κs. search rules) (λ c. search rules) (λ c κs. search rules) (λ c. search rules) (λ c. search rules) (λ c. search rules) (λ c. search rules) (λ c. search rules) (λ c. search rules) returns-in-Native returns-in-T returns-in-Tdg returns-in-Rz returns-in-P returns-in-Rzz returns-in-Pauli returns-in-Depol returns-in-Damp returns-in-Phase returns-in-Thermal returns-in-Depol2 returns-in-Barrier)

@@ -1,4 +1,3 @@
--- `rate_fits` meets its contract. Assumes nothing.
 use Rattle.ops.specs.Task.{real_fits}
 use Rattle.sheet.proofs.OpLaws.{every_one}
 use Rattle.ops.specs.Ops.{channel}
@@ -7,7 +6,7 @@ use Rattle.sheet.proofs.optests.rate_fits.Statement.{statement}
 use Rattle.sheet.proofs.optests.rate_fits.Tie as tie
 
 returns : tie.Need-returns
-returns c = every_one (real_fits channel) _ _ c.in-unit.ensures
+returns c = every_one (real_fits channel) _ _ c.in_unit.ensures
 
-pub rate-fits-spec : {M : Type 1} → statement M
-rate-fits-spec = tie.close (tie.spec (λ c κs. search rules) returns)
+pub rate_fits_spec : {M : Type 1} → statement M
+rate_fits_spec = tie.close (tie.spec (λ c κs. search rules) returns)

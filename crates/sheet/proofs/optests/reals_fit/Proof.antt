@@ -1,4 +1,3 @@
--- `reals_fit` meets its contract. Assumes nothing.
 use Rattle.ops.specs.Task.{every, reals_fit}
 use Rattle.sheet.proofs.OpLaws.{by_op}
 use mathlib.Core.Path.{refl}
@@ -6,48 +5,48 @@ use borrow.Author.Rules.{rules}
 use Rattle.sheet.proofs.optests.reals_fit.Statement.{statement}
 use Rattle.sheet.proofs.optests.reals_fit.Tie as tie
 
-returns : tie.Need-returns
+returns-in-Native : tie.Need-returns-in-Native
 unfolding every
-returns c = by_op reals_fit _ _ _ c.enum_told.given.1 refl
+returns-in-Native c = by_op reals_fit _ _ _ c.in-Native.is refl
 
-returns-2 : tie.Need-returns-2
+returns-in-T : tie.Need-returns-in-T
 unfolding every
-returns-2 c = by_op reals_fit _ _ _ c.enum-told2.given.1 refl
+returns-in-T c = by_op reals_fit _ _ _ c.in-T.is refl
 
-returns-3 : tie.Need-returns-3
+returns-in-Tdg : tie.Need-returns-in-Tdg
 unfolding every
-returns-3 c = by_op reals_fit _ _ _ c.enum-told3.given.1 refl
+returns-in-Tdg c = by_op reals_fit _ _ _ c.in-Tdg.is refl
 
-returns-4 : tie.Need-returns-4
-returns-4 c = by_op reals_fit _ _ _ c.before.before.op.given.1 c.sines-fit.ensures
+returns-in-Rz : tie.Need-returns-in-Rz
+returns-in-Rz c = by_op reals_fit _ _ _ c.before.in-Rz.is c.sines_fit.ensures
 
-returns-5 : tie.Need-returns-5
-returns-5 c = by_op reals_fit _ _ _ c.before.before.op2.given.1 c.sines-fit2.ensures
+returns-in-P : tie.Need-returns-in-P
+returns-in-P c = by_op reals_fit _ _ _ c.before.in-P.is c.sines_fit-in-P.ensures
 
-returns-6 : tie.Need-returns-6
-returns-6 c = by_op reals_fit _ _ _ c.before.before.op3.given.1 c.sines-fit3.ensures
+returns-in-Rzz : tie.Need-returns-in-Rzz
+returns-in-Rzz c = by_op reals_fit _ _ _ c.before.in-Rzz.is c.sines_fit-in-Rzz.ensures
 
-returns-7 : tie.Need-returns-7
-returns-7 c = by_op reals_fit _ _ _ c.before.before.op4.given.1 c.rates-fit.ensures
+returns-in-Pauli : tie.Need-returns-in-Pauli
+returns-in-Pauli c = by_op reals_fit _ _ _ c.before.in-Pauli.is c.rates_fit.ensures
 
-returns-8 : tie.Need-returns-8
-returns-8 c = by_op reals_fit _ _ _ c.before.before.op5.given.1 c.rate-fits.ensures
+returns-in-Depol : tie.Need-returns-in-Depol
+returns-in-Depol c = by_op reals_fit _ _ _ c.before.in-Depol.is c.rate_fits.ensures
 
-returns-9 : tie.Need-returns-9
-returns-9 c = by_op reals_fit _ _ _ c.before.before.op6.given.1 c.rate-fits2.ensures
+returns-in-Damp : tie.Need-returns-in-Damp
+returns-in-Damp c = by_op reals_fit _ _ _ c.before.in-Damp.is c.rate_fits-in-Damp.ensures
 
-returns-10 : tie.Need-returns-10
-returns-10 c = by_op reals_fit _ _ _ c.before.before.op7.given.1 c.rate-fits3.ensures
+returns-in-Phase : tie.Need-returns-in-Phase
+returns-in-Phase c = by_op reals_fit _ _ _ c.before.in-Phase.is c.rate_fits-in-Phase.ensures
 
-returns-11 : tie.Need-returns-11
-returns-11 c = by_op reals_fit _ _ _ c.before.before.op8.given.1 c.rates-fit2.ensures
+returns-in-Thermal : tie.Need-returns-in-Thermal
+returns-in-Thermal c = by_op reals_fit _ _ _ c.before.in-Thermal.is c.rates_fit-in-Thermal.ensures
 
-returns-12 : tie.Need-returns-12
-returns-12 c = by_op reals_fit _ _ _ c.before.before.op9.given.1 c.rate-fits4.ensures
+returns-in-Depol2 : tie.Need-returns-in-Depol2
+returns-in-Depol2 c = by_op reals_fit _ _ _ c.before.in-Depol2.is c.rate_fits-in-Depol2.ensures
 
-returns-13 : tie.Need-returns-13
+returns-in-Barrier : tie.Need-returns-in-Barrier
 unfolding every
-returns-13 c = by_op reals_fit _ _ _ c.enum-told4.given.1 refl
+returns-in-Barrier c = by_op reals_fit _ _ _ c.in-Barrier.is refl
 
-pub reals-fit-spec : {M : Type 1} → statement M
-reals-fit-spec = tie.close (tie.spec (λ c. search rules) (λ c. search rules) (λ c. search rules) (λ c. search rules) (λ c κs. search rules) (λ c. search rules) (λ c κs. search rules) (λ c. search rules) (λ c κs. search rules) (λ c. search rules) (λ c κs. search rules) (λ c. search rules) (λ c κs. search rules) (λ c. search rules) (λ c κs. search rules) (λ c. search rules) (λ c κs. search rules) (λ c. search rules) (λ c κs. search rules) (λ c. search rules) (λ c κs. search rules) (λ c. search rules) returns returns-2 returns-3 returns-4 returns-5 returns-6 returns-7 returns-8 returns-9 returns-10 returns-11 returns-12 returns-13)
+pub reals_fit_spec : {M : Type 1} → statement M
+reals_fit_spec = tie.close (tie.spec (λ c. search rules) (λ c. search rules) (λ c. search rules) (λ c. search rules) (λ c κs. search rules) (λ c. search rules) (λ c κs. search rules) (λ c. search rules) (λ c κs. search rules) (λ c. search rules) (λ c κs. search rules) (λ c. search rules) (λ c κs. search rules) (λ c. search rules) (λ c κs. search rules) (λ c. search rules) (λ c κs. search rules) (λ c. search rules) (λ c κs. search rules) (λ c. search rules) (λ c κs. search rules) (λ c. search rules) returns-in-Native returns-in-T returns-in-Tdg returns-in-Rz returns-in-P returns-in-Rzz returns-in-Pauli returns-in-Depol returns-in-Damp returns-in-Phase returns-in-Thermal returns-in-Depol2 returns-in-Barrier)

@@ -1,4 +1,3 @@
--- `targets_below` meets its contract. Assumes nothing.
 use Rattle.lines.specs.TermLines.{all_below}
 use Rattle.sheet.proofs.OpLaws.{of_targets}
 use borrow.Author.Rules.{rules}
@@ -6,7 +5,7 @@ use Rattle.sheet.proofs.optests.targets_below.Statement.{statement}
 use Rattle.sheet.proofs.optests.targets_below.Tie as tie
 
 returns : tie.Need-returns
-returns c = of_targets (all_below _) c.before.before.args.op _ _ c.before.Targets-of.ensures c.are-below.ensures
+returns c = of_targets (all_below _) c.before.before.args.op _ _ c.before.targets_of.ensures c.are_below.ensures
 
-pub targets-below-spec : {M : Type 1} → statement M
-targets-below-spec = tie.close (tie.spec (λ c κs. search rules) (λ c κs. search rules) returns)
+pub targets_below_spec : {M : Type 1} → statement M
+targets_below_spec = tie.close (tie.spec (λ c κs. search rules) (λ c κs. search rules) returns)

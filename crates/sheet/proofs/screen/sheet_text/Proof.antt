@@ -1,4 +1,3 @@
--- `sheet_text` meets its contract: the answer in local buffers, and its text. Assumes nothing.
 use Rattle.numbers.specs.Constants.{zero64}
 use Rattle.sheet.proofs.ScreenLaws.{same_text, answer_printed}
 use Prim.Native.Nat.{ℕ}
@@ -9,10 +8,10 @@ use Rattle.sheet.proofs.screen.sheet_text.Statement.{statement}
 use Rattle.sheet.proofs.screen.sheet_text.Tie as tie
 
 returns : tie.Need-returns
-returns c = same_text (answer_printed c.before.before.before.before.before.before.before.before.before.before.before.before.before.before.before.before.args.s.now _ (length-replicate {A = ℕ} 4096 0) (length-replicate {A = Float} 512 zero64) (length-replicate {A = Float} 256 zero64) c.before.before.before.before.before.before.before.before.before.answer.ensures) c.before.before.printed.ensures
+returns c = same_text (answer_printed c.before.before.before.before.before.before.before.before.before.before.before.before.before.before.before.before.args.s.now _ (length-replicate {A = ℕ} 4096 0) (length-replicate {A = Float} 512 zero64) (length-replicate {A = Float} 256 zero64) c.before.before.before.before.before.before.before.before.before.answer-reply.ensures) c.before.before.printed.ensures
 
-pub sheet-text-spec : {M : Type 1} → statement M
-sheet-text-spec =
+pub sheet_text_spec : {M : Type 1} → statement M
+sheet_text_spec =
     tie.close
     (tie.spec
     (λ c. search rules) (λ c. search rules) (λ c. search rules) (λ c. search rules) (λ c κs. search rules) (λ c. search rules)

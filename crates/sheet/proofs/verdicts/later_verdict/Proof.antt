@@ -1,4 +1,3 @@
--- `later_verdict` meets its contract. Assumes nothing.
 use Rattle.layout.specs.declared.Head.{Head}
 use Rattle.sheet.proofs.VerdictLaws.{refused_here, passed_on}
 use Rattle.sheet.specs.Questions.{line_of, by_line}
@@ -9,37 +8,37 @@ use borrow.Author.Rules.{rules}
 use Rattle.sheet.proofs.verdicts.later_verdict.Statement.{statement}
 use Rattle.sheet.proofs.verdicts.later_verdict.Tie as tie
 
-returns : tie.Need-returns
-returns c =
+returns-then-c-ne0 : tie.Need-returns-then-c-ne0
+returns-then-c-ne0 c =
     let a = c.before.before.before.before.before.args in
-    refused_here 3 (line_of Three a.head (parts newline a.s.now)) _ _ c.before.first_line.ensures c.if1.true
+    refused_here 3 (line_of Three a.head (parts newline a.s.now)) _ _ c.before.first_line-c.ensures c.if-c-ne0.true
 
-returns-2 : tie.Need-returns-2
-returns-2 c =
+returns-then-d-ne0 : tie.Need-returns-then-d-ne0
+returns-then-d-ne0 c =
     let a = c.before.before.before.before.before.before.before.args in
     let ls = parts newline a.s.now in
-    passed_on 3 (line_of Three a.head ls) _ _ _ c.before.before.before.first_line.ensures c.before.before.if1.false
-    (refused_here 4 (line_of Four a.head ls) _ _ c.before.first-line2.ensures c.if2.true)
+    passed_on 3 (line_of Three a.head ls) _ _ _ c.before.before.before.first_line-c.ensures c.before.before.if-c-ne0.false
+    (refused_here 4 (line_of Four a.head ls) _ _ c.before.first_line-d.ensures c.if-d-ne0.true)
 
-returns-3 : tie.Need-returns-3
-returns-3 c =
+returns-then-e-ne0 : tie.Need-returns-then-e-ne0
+returns-then-e-ne0 c =
     let a = c.before.before.before.before.before.before.before.before.before.args in
     let ls = parts newline a.s.now in
-    passed_on 3 (line_of Three a.head ls) _ _ _ c.before.before.before.before.before.first_line.ensures c.before.before.before.before.if1.false
-    (passed_on 4 (line_of Four a.head ls) _ _ _ c.before.before.before.first-line2.ensures c.before.before.if2.false
-    (refused_here 11 (line_of Eleven a.head ls) _ _ c.before.first-line3.ensures c.if3.true))
+    passed_on 3 (line_of Three a.head ls) _ _ _ c.before.before.before.before.before.first_line-c.ensures c.before.before.before.before.if-c-ne0.false
+    (passed_on 4 (line_of Four a.head ls) _ _ _ c.before.before.before.first_line-d.ensures c.before.before.if-d-ne0.false
+    (refused_here 11 (line_of Eleven a.head ls) _ _ c.before.first_line-e.ensures c.if-e-ne0.true))
 
-returns-4 : tie.Need-returns-4
-returns-4 c =
+returns : tie.Need-returns
+returns c =
     let a = c.before.before.before.before.before.before.before.before.before.before.before.args in
     let ls = parts newline a.s.now in
-    passed_on 3 (line_of Three a.head ls) _ _ _ c.before.before.before.before.before.before.before.first_line.ensures c.before.before.before.before.before.before.if1.false
-    (passed_on 4 (line_of Four a.head ls) _ _ _ c.before.before.before.before.before.first-line2.ensures c.before.before.before.before.if2.false
-    (passed_on 11 (line_of Eleven a.head ls) _ _ _ c.before.before.before.first-line3.ensures c.before.before.if3.false
-    (c.by-line.ensures ∙ ap (by_line a.head ls) c.before.room-verdict.ensures)))
+    passed_on 3 (line_of Three a.head ls) _ _ _ c.before.before.before.before.before.before.before.first_line-c.ensures c.before.before.before.before.before.before.if-c-ne0.false
+    (passed_on 4 (line_of Four a.head ls) _ _ _ c.before.before.before.before.before.first_line-d.ensures c.before.before.before.before.if-d-ne0.false
+    (passed_on 11 (line_of Eleven a.head ls) _ _ _ c.before.before.before.first_line-e.ensures c.before.before.if-e-ne0.false
+    (c.by_line.ensures ∙ ap (by_line a.head ls) c.before.room_verdict-room.ensures)))
 
-pub later-verdict-spec : {M : Type 1} → statement M
-later-verdict-spec =
+pub later_verdict_spec : {M : Type 1} → statement M
+later_verdict_spec =
     tie.close
     (tie.spec
-    (λ c κs. search rules) returns (λ c κs. search rules) returns-2 (λ c κs. search rules) returns-3 (λ c κs. search rules) (λ c κs. search rules) returns-4)
+    (λ c κs. search rules) returns-then-c-ne0 (λ c κs. search rules) returns-then-d-ne0 (λ c κs. search rules) returns-then-e-ne0 (λ c κs. search rules) (λ c κs. search rules) returns)

@@ -1,4 +1,3 @@
--- `places_fit` meets its contract. Assumes nothing.
 use Rattle.ops.specs.declared.Run.{Run}
 use Rattle.sheet.proofs.HeadLaws.{by_run}
 use Rattle.sheet.specs.Questions.{places_fit}
@@ -7,8 +6,8 @@ use borrow.Author.Rules.{rules}
 use Rattle.sheet.proofs.verdicts.places_fit.Statement.{statement}
 use Rattle.sheet.proofs.verdicts.places_fit.Tie as tie
 
-returns-3 : tie.Need-returns-3
-returns-3 c = let a = c.before.before.args in by_run (λ (r : Run). places_fit r a.qubits a.places) _ _ _ c.enum-told3.given.1 refl
+returns-in-All : tie.Need-returns-in-All
+returns-in-All c = let a = c.before.args in by_run (λ (r : Run). places_fit r a.qubits a.places) _ _ _ c.in-All.is refl
 
-pub places-fit-spec : {M : Type 1} → statement M
-places-fit-spec = tie.close (tie.spec (λ c. search rules) (λ c. search rules) (λ c. search rules) (λ c. search rules) (λ c. search rules) (λ c. search rules) (λ c. search rules) returns-3 (λ c. search rules) (λ c. search rules))
+pub places_fit_spec : {M : Type 1} → statement M
+places_fit_spec = tie.close (tie.spec (λ c. search rules) (λ c. search rules) (λ c. search rules) (λ c. search rules) (λ c. search rules) (λ c. search rules) (λ c. search rules) returns-in-All (λ c. search rules) (λ c. search rules))
