@@ -1,4 +1,3 @@
--- `qubit_bench_answer` meets its contract: the answer, and its text. Assumes nothing.
 use borrow.Author.Rules.{rules}
 use Rattle.sheet.proofs.ScreenLaws.{answer_text, same_text}
 use Rattle.qubit_bench.proofs.qubit_bench_answer.Statement.{statement}
@@ -6,12 +5,12 @@ use Rattle.qubit_bench.proofs.qubit_bench_answer.Tie as tie
 
 returns : tie.Need-returns
 returns c = record {
-  text = same_text (answer_text c.before.before.before.before.before.before.before.before.before.before.before.before.before.before.before.before.before.before.before.before.before.before.before.before.args.sheet.now _ c.before.before.before.before.before.before.before.before.before.before.before.before.before.answer.ensures) c.before.before.printed.ensures;
-  memory = c.before.before.before.before.before.before.before.before.before.before.before.before.before.answer.ensures.memory;
+  text = same_text (answer_text c.before.before.before.before.before.before.before.before.before.before.before.before.before.before.before.before.before.before.before.before.before.before.before.args.sheet.now _ c.before.before.before.before.before.before.before.before.before.before.before.before.answer-reply.ensures) c.before.before.printed.ensures;
+  memory = c.before.before.before.before.before.before.before.before.before.before.before.before.answer-reply.ensures.memory;
 }
 
-pub qubit-bench-answer-spec : {M : Type 1} → statement M
-qubit-bench-answer-spec =
+pub qubit_bench_answer_spec : {M : Type 1} → statement M
+qubit_bench_answer_spec =
     tie.close
     (tie.spec
     (λ c κs. search rules) (λ c κs. search rules) (λ c. search rules) (λ c. search rules) (λ c. search rules) (λ c. search rules)
