@@ -1,5 +1,5 @@
 -- The letter of a word at a qubit, as the index of its multiplier: X, Y, Z are 0, 1, 2.
-use Rattle.std.specs.Prelude.{ℕ, Bool, cond}
+use Rattle.std.specs.Prelude.{ℕ, cond}
 use Rattle.words.specs.Keys.{Key, has_letter}
 use Rattle.terms.specs.declared.Found.{Found}
 use Rattle.terms.specs.declared.Found.TheVariants.{At, Nothing}

@@ -1,5 +1,7 @@
 // The steps over a weighted Pauli sum in two lent buffers that look for rows by their keys, by an index in lent memory: the start of a run,
 // rotations and channels.
+#![tactic(auto)]
+
 pub mod chains;
 pub mod channels;
 mod pairs;

@@ -1,4 +1,6 @@
 // And, or, and the smaller of two, as functions.
+#![tactic(auto)]
+
 ghost use Rattle.std.specs.Prelude.{◌≡◌, ◌&&◌, ◌||◌, min};
 
 pub fn both(a: bool, b: bool) -> bool

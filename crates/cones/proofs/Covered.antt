@@ -11,7 +11,7 @@ use lib.Dec.{eqb, ltb, leb}
 use borrow.Author.Tests.{le-ltb, ltb-true, eqb-false}
 use lib.ListN.{length, drop, get_or}
 use lib.Ieee.{Float, binary64, neg, of_bits, lt}
-use Rattle.numbers.specs.Close.{◌≈◌, same}
+use Rattle.numbers.specs.Close.{same}
 use Rattle.numbers.specs.Constants.{zero64, one64}
 use Rattle.numbers.specs.Tests.{is_finite}
 use Rattle.numbers.proofs.CloseLaws.{add_≈, mul_≈, finite_≈}
@@ -20,9 +20,9 @@ use Rattle.words.specs.Keys.{Key, has_letter}
 use Rattle.words.proofs.LetterLaws.{letter, no_letter}
 use Rattle.terms.specs.Lists.{All, none}
 use Rattle.terms.specs.Coefficient.{signed, finite_of}
-use Rattle.terms.specs.Term.{Term, term, all_finite}
+use Rattle.terms.specs.Term.{Term, all_finite}
 use Rattle.words.specs.Letters.{ys_of}
-use Rattle.terms.specs.Start.{term_of, merged}
+use Rattle.terms.specs.Start.{term_of}
 use Rattle.terms.specs.Truncation.{crowded}
 use Rattle.terms.specs.Mean.{mean_of}
 use Rattle.terms.proofs.CaseLaws.{and_true, and-false, eq_or_ne}

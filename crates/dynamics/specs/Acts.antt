@@ -1,5 +1,5 @@
 -- What an op does to a sum, without what follows it, and how many terms it meets.
-use Rattle.std.specs.Prelude.{ℕ, cond, not, List, map, Float}
+use Rattle.std.specs.Prelude.{ℕ, cond, List, map, Float}
 use Rattle.std.specs.Float.Ieee.{neg}
 use Rattle.numbers.specs.Constants.{sine_t, cosine_t}
 use Rattle.terms.specs.declared.Axis.{Axis}

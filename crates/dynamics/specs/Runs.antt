@@ -4,7 +4,6 @@ use Rattle.numbers.specs.Constants.{zero64}
 use Rattle.terms.specs.Term.{Term}
 use Rattle.ops.specs.declared.Limits.{Limits}
 use Rattle.ops.specs.declared.Op.{Op}
-use Rattle.ops.specs.Ops.{targets}
 use Rattle.dynamics.specs.Acts.{act, met}
 use Rattle.dynamics.specs.Turn.{Stage, going, bind, State, state, settle, Outcome, finish}
 

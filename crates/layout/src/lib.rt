@@ -1,4 +1,5 @@
 // All lines of a sheet: question 1, and the values that the other questions and the runs take.
+#![tactic(auto)]
 
 use ops::Run;
 

@@ -1,4 +1,5 @@
 // One line of a sheet: whether it is laid out as it should be, and the values on it.
+#![tactic(auto)]
 
 use ops::{Op, Run};
 use words::Gate;

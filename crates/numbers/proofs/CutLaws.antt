@@ -1,7 +1,7 @@
 -- A number cut to whole multiples of 2^-60: from its digits and its power, and held at 2^61. Assumes nothing.
 use mathlib.Core.Path.{◌≡◌, refl, sym, ap, ◌∙◌, subst}
-use Prim.Native.Nat.{ℕ, zero, suc, ◌+◌, ◌-◌, ◌*◌, ◌/◌, ◌%◌, ◌^◌, ◌≤◌, ◌<◌, min}
-use native.Mathlib.Nat.{le_trans, le_of_lt, le_of_eq, lt_of_lt_of_le, lt_of_le_of_lt, mul_assoc, mul_comm, mul_right_comm, mul-le-mul, mul-div_cancel, min-eq_left, min-eq_right, le-div_iff_mul-le, div-eq_of_lt, div-le_self, zero-mul, zero-div, div-add-mod', mod-lt, suc-mul}
+use Prim.Native.Nat.{ℕ, suc, ◌+◌, ◌-◌, ◌*◌, ◌/◌, ◌%◌, ◌^◌, ◌≤◌, ◌<◌, min}
+use native.Mathlib.Nat.{le_trans, le_of_lt, le_of_eq, lt_of_lt_of_le, mul_assoc, mul_right_comm, mul-le-mul, mul-div_cancel, min-eq_left, min-eq_right, div-eq_of_lt, div-le_self, div-add-mod', mod-lt, suc-mul}
 use native.Mathlib.Omega.{arith}
 use mathlib.Core.Bool.{Bool, true, false, ◌&&◌}
 use lib.Dec.{leb, lit≤}
@@ -15,7 +15,7 @@ use borrow.Author.Tests.{lt-leb}
 use Rattle.numbers.specs.Tests.{is_finite}
 use Rattle.numbers.specs.Close.{◌≈◌, same, zeros}
 use Rattle.numbers.proofs.TestLaws.{fails}
-use Rattle.numbers.specs.Angle.{cut_of, most, near, on_circle, is_angle, is_mix}
+use Rattle.numbers.specs.Angle.{cut_of, most, near, on_circle}
 
 -- ---- "cut toward zero to a whole multiple of 2^-60": n multiples are at most the number, and n + 1 are more
 

@@ -6,7 +6,7 @@ use native.Mathlib.Omega.{arith}
 use mathlib.Core.Bool.{Bool, true, false, cond, ◌&&◌}
 use lib.Dec.{leb}
 use lib.IntN.{ℤ}
-use lib.Ieee.{Float, nan, inf, fin, up, down}
+use lib.Ieee.{nan, inf, fin, up, down}
 use borrow.Author.Tests.{leb-true, leb-false}
 use Rattle.numbers.specs.Angle.{most, cut_of, is_angle}
 use Rattle.numbers.specs.Norm.{square, apart, KeepsNorm, AnglesKeepNorm}

@@ -1,6 +1,6 @@
 -- What a pair that is an angle gives and one that is none does not: a rotation by it keeps the sum of the squares of the coefficients, taken exactly,
 -- within 1 - 2^-50 and 1 + 2^-49 times what it was.
-use Rattle.std.specs.Prelude.{ℕ, ◌+◌, ◌-◌, ◌*◌, ◌^◌, ◌≤◌, ◌≡◌, Bool, true, Float}
+use Rattle.std.specs.Prelude.{ℕ, ◌+◌, ◌-◌, ◌*◌, ◌^◌, ◌≤◌, ◌≡◌, true, Float}
 use Rattle.std.specs.Float.{nan, inf, fin}
 use Rattle.std.specs.Float.Ieee.{up, down}
 use Rattle.numbers.specs.Angle.{is_angle}

@@ -8,7 +8,7 @@ use native.Mathlib.Omega.{arith}
 use lib.Dec.{ltb, eqb}
 use borrow.Author.Tests.{lt-ltb, le-ltb}
 use Rattle.terms.proofs.CaseLaws.{lt_or_le}
-use Rattle.ops.specs.Ops.{targets, on_words}
+use Rattle.ops.specs.Ops.{on_words}
 
 -- the code's test of one target
 pub qubit_test : (w q : ℕ) → ltb (q / 64) w ≡ ltb q (64 * w)

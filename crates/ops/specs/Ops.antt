@@ -1,7 +1,6 @@
 -- Ops: their targets, and what each does to a sum.
 use Rattle.std.specs.Prelude.{ℕ, ◌+◌, ◌*◌, Bool, true, false, cond, not, ◌&&◌, List, [], ◌∷◌, ltb, eqb, Float}
 use Rattle.words.specs.Gates.{has_two_targets}
-use Rattle.terms.specs.declared.NoiseChannel.TheVariants as N
 use Rattle.ops.specs.declared.Op.{Op}
 use Rattle.ops.specs.declared.Op.TheVariants.{Native, T, Tdg, Rz, P, Rzz, Pauli, Depol, Damp, Phase, Thermal, Depol2, Barrier}
 

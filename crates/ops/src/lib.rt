@@ -1,4 +1,6 @@
 // Ops and lists of ops, the marks that say which of them a run applies, and what a run is given.
+#![tactic(auto)]
+
 pub mod marks;
 pub mod oplist;
 pub mod sizes;

@@ -11,7 +11,7 @@ use lib.Dec.{eqb, ltb, leb}
 use lib.ListN.{length, drop, get_or, replicate, length-replicate, get_or-replicate, get_or-eq_default}
 use lib.Ieee.{Float, binary64, lt, fits}
 use lib.Ieee.Bits.{of_bits-fits}
-use Rattle.numbers.specs.Close.{◌≈◌, same}
+use Rattle.numbers.specs.Close.{same}
 use Rattle.numbers.specs.Constants.{zero64, one64}
 use Rattle.numbers.specs.Tests.{is_finite}
 use Rattle.numbers.proofs.CloseLaws.{add_≈, mul_≈, finite_≈}
@@ -30,7 +30,7 @@ use Rattle.ops.specs.declared.Op.{Op}
 use Rattle.ops.specs.declared.Op.TheVariants.{Native, T, Tdg, Rz, P, Rzz, Pauli, Depol, Damp, Phase, Thermal, Depol2, Barrier}
 use Rattle.ops.specs.Ops.{targets, on_words}
 use Rattle.dynamics.specs.Acts.{act_on, act, met}
-use Rattle.dynamics.specs.Turn.{Stage, going, bind, ask, State, state, fine, drop_small, truncated, checked, settle, Outcome, ended, finish}
+use Rattle.dynamics.specs.Turn.{Stage, going, bind, ask, State, fine, drop_small, truncated, checked, settle, Outcome, ended, finish}
 use Rattle.ops.specs.Marks.{mark_all}
 use Rattle.dynamics.specs.Runs.{turn, step, runs, marked_run, begin}
 use Rattle.dynamics.specs.Outcome.{z_key}
@@ -38,7 +38,7 @@ use Rattle.dynamics.proofs.KeptLaws.{gate_targets, axis_on, pair_on, act_width}
 use Rattle.ops.specs.declared.Run.{Run}
 use Rattle.ops.specs.declared.Run.TheVariants as R
 use Rattle.ops.specs.Task.{Line, Task, width}
-use Rattle.dynamics.specs.Outcome.{terms_of, start_of, nothing_yet, alone, add_line, add_next, fold_lines, ask_totals, folded, or_fold, sum_run, add_z, z_step, all_runs, outcome_of}
+use Rattle.dynamics.specs.Outcome.{terms_of, start_of, nothing_yet, add_line, add_next, fold_lines, ask_totals, folded, or_fold, sum_run, add_z, z_step, all_runs, outcome_of}
 use Rattle.published.specs.Term as CT
 use Rattle.published.specs.Start as CS
 use Rattle.published.specs.Ops as CO

@@ -47,7 +47,7 @@ use Rattle.terms.proofs.CaseLaws.{and_true}
 use Rattle.terms.proofs.NearLaws.{each_map, each_append, each_fold, each_length, cond_both, cond_same}
 use Rattle.published.specs.OneReal.{Stands, TermBy, SameTerm}
 use Rattle.terms.proofs.YLaws.{odd_same, odd_suc, conjugated_ys, partner_ys, no_y_ys}
-use Rattle.published.proofs.SameTerms.{Names, both, neither, names_finite, names_stands, stands_none, stands_plus, names_plus, names_scaled}
+use Rattle.published.proofs.SameTerms.{Names, both, names_finite, names_stands, stands_none, stands_plus, names_plus, names_scaled}
 use Rattle.published.proofs.SameTerms.{names_flipped, stands_size, negates_turns, parity_plus, stands_turned}
 
 -- ---- terms

@@ -2,19 +2,18 @@
 use Prim.Native.Nat.{ℕ, zero, suc, ◌+◌, ◌*◌, ◌%◌, ◌<◌}
 use mathlib.Core.Path.{◌≡◌, refl, sym, ap, ap₂, ◌∙◌, subst, subst₂}
 use mathlib.Core.Bool.{Bool, true, false, not, cond, ◌&&◌, false≢true, beq}
-use mathlib.Core.Logic.{◌≢◌}
 use native.Mathlib.Nat.{zero-mul}
 use native.Mathlib.Omega.{arith}
 use lib.Dec.{T, ltb, eqb-suc-zero}
 use borrow.Author.Tests.{eqb-true, eqb-false}
-use lib.Ieee.{Float, nan, inf, fin, binary64, neg, add, mul, eq, of_bits, round, up, down, unlike, fits}
+use lib.Ieee.{Float, nan, inf, fin, binary64, neg, add, mul, of_bits, round, up, down, unlike, fits}
 use lib.Ieee.Fits.{neg-fits, add-fits, mul-fits}
 use lib.Ieee.Bits.{of_bits-fits}
 use Rattle.numbers.specs.Constants.{zero64}
 use Rattle.numbers.specs.Tests.{is_finite, abs_of, is_zero}
 use Rattle.numbers.specs.Close.{◌≈◌, same, zeros}
 use Rattle.numbers.proofs.ValueLaws.{round_zero}
-use Rattle.numbers.proofs.CloseLaws.{≈_sym, ≈_trans, ≈_of, finite_≈, neg_≈, add_≈, abs_≈, ≈_of_eq}
+use Rattle.numbers.proofs.CloseLaws.{≈_sym, ≈_trans, finite_≈, neg_≈, add_≈, abs_≈, ≈_of_eq}
 use Rattle.words.specs.Keys.{◌⊕◌}
 use Rattle.words.specs.declared.Bits as B
 use Rattle.words.specs.declared.Gate.{Gate}

@@ -1,4 +1,6 @@
 // The complex record of a compared row, read from the row's word and its one number.
+#![tactic(auto)]
+
 ghost use Rattle.std.specs.Prelude.{◌≡◌};
 ghost use Rattle.terms.specs.Term.{odd_y};
 ghost use Rattle.published.specs.Complex.{coeff_of};

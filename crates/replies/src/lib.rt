@@ -1,4 +1,5 @@
 // The reply to a sheet, and its text.
+#![tactic(auto)]
 
 // What a sheet is answered. `means` is how many mean places hold a Z mean: as many as qubits for `all`, else 0.
 #[derive(Clone, Copy)]

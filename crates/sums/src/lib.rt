@@ -1,4 +1,6 @@
 // A weighted Pauli sum in two lent buffers, the first n rows: gates, truncation, mean.
+#![tactic(auto)]
+
 pub mod gates;
 mod loops;
 pub mod mean;

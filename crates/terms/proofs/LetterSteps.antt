@@ -12,7 +12,7 @@ use Rattle.numbers.specs.Tests.{is_zero}
 use Rattle.words.specs.declared.Gate.{Gate}
 use Rattle.words.specs.Keys.{Key, bit_at, flip_at, z_at}
 use Rattle.words.specs.Gates.{has_two_targets, bits_at, conj_key, meets}
-use Rattle.words.proofs.GateLaws.{unmet_key, unmet_phase}
+use Rattle.words.proofs.GateLaws.{unmet_key}
 use Rattle.words.proofs.LetterLaws.{letter, letter_flip_z, no_letter, conj_key_letter}
 use Rattle.terms.specs.declared.Axis.{Axis}
 use Rattle.terms.specs.declared.Axis.TheVariants.{Z, Zz}

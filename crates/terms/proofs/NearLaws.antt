@@ -1,14 +1,13 @@
 -- Lists of terms that agree up to the signs of zeros: the relation, and what the drop of small terms, the mean and the tests keep of it. Assumes nothing.
 use mathlib.Core.Path.{◌≡◌, refl, sym, ap, ap₂, ◌∙◌, subst}
-use Prim.Native.Nat.{ℕ, zero, suc, ◌%◌}
+use Prim.Native.Nat.{ℕ, zero, suc}
 use mathlib.Core.Bool.{Bool, true, false, not, ◌&&◌, cond}
 use mathlib.Core.List.{List, [], ◌∷◌, ◌++◌, map}
-use lib.Dec.{eqb}
 use lib.ListN.{length, get_or}
 use lib.Ieee.{Float, binary64}
 use Rattle.numbers.specs.Tests.{abs_of}
 use Rattle.numbers.specs.Close.{◌≈◌, same}
-use Rattle.numbers.proofs.CloseLaws.{≈_sym, ≈_trans, neg_≈, add_≈, mul_≈, lt_≈, finite_≈, abs_≈, is_zero_≈}
+use Rattle.numbers.proofs.CloseLaws.{≈_sym, ≈_trans, neg_≈, add_≈, mul_≈, lt_≈, finite_≈, abs_≈}
 use Rattle.words.specs.Keys.{Key, no_x}
 use Rattle.terms.specs.Lists.{Each, none, more, foldl}
 use Rattle.terms.specs.Coefficient.{signed, scaled_of, flipped_of, plus_of}

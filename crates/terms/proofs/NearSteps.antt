@@ -12,7 +12,7 @@ use Rattle.numbers.specs.Root.{sqrt_of}
 use Rattle.numbers.proofs.CloseLaws.{add_≈, sub_≈, mul_≈, div_≈, is_zero_≈, at_least_zero_≈, sqrt_≈}
 use Rattle.words.specs.declared.Gate.{Gate}
 use Rattle.words.specs.Keys.{Key, flip_at, z_at, has_letter, same_key}
-use Rattle.words.specs.Gates.{bits_at, conj_key, conj_phase}
+use Rattle.words.specs.Gates.{bits_at, conj_key}
 use Rattle.terms.specs.declared.NoiseChannel.{NoiseChannel}
 use Rattle.terms.specs.declared.NoiseChannel.TheVariants.{Pauli, Depolarizing, AmplitudeDamping, PhaseDamping, ThermalRelaxation, TwoQubitDepolarizing}
 use Rattle.terms.specs.declared.ChannelKind.{ChannelKind}

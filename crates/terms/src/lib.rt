@@ -1,4 +1,6 @@
 // Terms of a weighted Pauli sum: the one real of a coefficient, the parity of a word, and what a noise channel does to the letters of a word.
+#![tactic(auto)]
+
 pub mod channels;
 pub mod number;
 

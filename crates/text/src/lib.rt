@@ -1,4 +1,5 @@
 // Texts as bytes: their parts, and the numbers that they spell.
+#![tactic(auto)]
 
 // A number that was read, or none.
 #[derive(Clone, Copy)]

@@ -1,4 +1,6 @@
 // Pauli words as bits, and one word through one Clifford gate.
+#![tactic(auto)]
+
 pub mod gates;
 pub mod keys;
 pub mod letters;

@@ -2,7 +2,6 @@ use mathlib.Core.Path.{sym, ◌∙◌, subst}
 use mathlib.Core.Bool.{false≢true}
 use Prim.Native.Nat.{◌*◌}
 use native.Mathlib.Omega.{arith}
-use borrow.Author.Tests.{not-true, not-false}
 use Rattle.rows.proofs.RowLaws.{row_before}
 use Rattle.branches.specs.Pairs.{NotAfter}
 use borrow.Author.Rules.{rules}

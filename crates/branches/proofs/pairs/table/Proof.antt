@@ -1,7 +1,6 @@
 use mathlib.Core.Path.{sym, ◌∙◌}
 use Prim.Native.Nat.{◌<◌}
 use native.Mathlib.Omega.{arith}
-use borrow.Author.Tests.{not-false}
 use Rattle.branches.proofs.FileLaws.{linked_none}
 use Rattle.branches.proofs.PairLaws.{pairing_none, pairing_table}
 use borrow.Author.Rules.{rules}

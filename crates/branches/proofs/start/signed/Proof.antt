@@ -1,8 +1,7 @@
 use lib.Ieee.{neg}
-use mathlib.Core.Path.{◌≡◌, sym, ap}
+use mathlib.Core.Path.{sym, ap}
 use mathlib.Core.Bool.{Bool, cond}
 use borrow.Author.Tests.{lt-ltb, le-ltb}
-use borrow.Author.Rules.{rules}
 use Rattle.branches.proofs.start.signed.Statement.{statement}
 use Rattle.branches.proofs.start.signed.Tie as tie
 

@@ -1,7 +1,7 @@
 use mathlib.Core.Path.{sym, ◌∙◌}
 use Rattle.text.specs.Bytes.{parts, newline}
 use borrow.Author.Rules.{rules}
-use borrow.Author.Tests.{leb-true, not-true, not-false}
+use borrow.Author.Tests.{leb-true}
 use Rattle.layout.proofs.LoadLaws.{loaded, no_weights, no_keys}
 use Rattle.layout.proofs.loads.load_lines.Statement.{statement}
 use Rattle.layout.proofs.loads.load_lines.Tie as tie

@@ -24,19 +24,19 @@ pub read_run_spec : {M : Type 1} → statement M
 read_run_spec =
     tie.close
     (tie.spec
- (λ c κs. search rules)
+    (λ c κs. search rules)
     (λ c. unfold run_field begins in let s = c.before.before.before.before.before.args.l.now in
     named run_field (bytes "run=full") s c.before.is_text.ensures c.if-is_text.true)
- (λ c κs. search rules)
+    (λ c κs. search rules)
     (λ c. unfold run_field begins in let s = c.before.before.before.before.before.before.before.before.before.args.l.now in
     named run_field (bytes "run=cone") s c.before.is_text-2.ensures c.if-is_text-2.true)
- (λ c κs. search rules)
+    (λ c κs. search rules)
     (λ c. unfold run_field begins in let s = c.before.before.before.before.before.before.before.before.before.before.before.before.before.args.l.now in
     named run_field (bytes "run=all") s c.before.is_text-3.ensures c.if-is_text-3.true)
- (λ c κs. search rules)
+    (λ c κs. search rules)
     (λ c. unfold run_field begins in let s = c.before.before.before.before.before.before.before.before.before.before.before.before.before.before.before.before.before.args.l.now in
     named run_field (bytes "run=path") s c.before.is_text-4.ensures c.if-is_text-4.true)
- (λ c κs. search rules)
+    (λ c κs. search rules)
     (λ c. unfold run_field begins in let s = c.before.before.before.before.before.before.before.before.before.before.before.before.before.before.before.before.before.before.before.before.before.args.l.now in
     named run_field (bytes "run=wide") s c.before.is_text-5.ensures c.if-is_text-5.true)
     returns)

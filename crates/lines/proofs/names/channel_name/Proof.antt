@@ -25,5 +25,5 @@ pub channel_name_spec : {M : Type 1} → statement M
 channel_name_spec =
     tie.close
     (tie.spec
- (λ c κs. search rules) (λ c κs. search rules) (λ c κs. search rules) (λ c κs. search rules) (λ c κs. search rules)
- (λ c κs. search rules) returns)
+    (λ c κs. search rules) (λ c κs. search rules) (λ c κs. search rules) (λ c κs. search rules) (λ c κs. search rules)
+    (λ c κs. search rules) returns)

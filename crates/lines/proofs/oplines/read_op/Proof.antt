@@ -9,6 +9,6 @@ unfolding op
 read_op_spec =
     tie.close
     (tie.spec
- (λ c κs. tt) (λ c. met _ c.before.is_text.ensures c.if-is_text.true refl) (λ c κs. tt)
+    (λ c κs. tt) (λ c. met _ c.before.is_text.ensures c.if-is_text.true refl) (λ c κs. tt)
     (λ c κs. tt) (λ c κs. tt) (λ c κs. tt)
     (λ c. passed _ c.before.before.before.before.before.is_text.ensures c.before.before.before.before.if-is_text.false (cc)))

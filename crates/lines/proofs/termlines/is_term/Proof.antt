@@ -2,7 +2,6 @@ use Prim.Native.Nat.{ℕ}
 use mathlib.Core.List.{List}
 use mathlib.Core.Path.{ap, ◌∙◌}
 use borrow.Author.Rules.{rules}
-use borrow.Author.Tests.{not-true, not-false}
 use Rattle.text.specs.Numerals.{real}
 use Rattle.lines.specs.Fields.{is_real}
 use Rattle.lines.specs.TermLines.{are_factors, factor_texts}

@@ -1,4 +1,3 @@
-use mathlib.Core.Path.{sym, ◌∙◌}
 use Rattle.numbers.specs.Angle.{cut_of}
 use Rattle.numbers.proofs.CutLaws.{mix_held}
 use borrow.Author.Rules.{rules}

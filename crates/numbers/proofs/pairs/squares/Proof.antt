@@ -1,5 +1,5 @@
 use native.Mathlib.Omega.{arith}
-use Prim.Native.Nat.{ℕ, ◌+◌, ◌*◌, ◌/◌, ◌%◌, ◌^◌, ◌≤◌}
+use Prim.Native.Nat.{ℕ, ◌*◌, ◌/◌, ◌%◌, ◌^◌, ◌≤◌}
 use Rattle.numbers.specs.Angle.{most}
 use Rattle.numbers.proofs.LimbLaws.{high_le, cross_le, low_le, limbs, low_lt}
 use borrow.Author.Rules.{rules}

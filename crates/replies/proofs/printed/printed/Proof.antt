@@ -1,4 +1,3 @@
-use mathlib.Core.Path.{◌∙◌}
 use borrow.Author.Rules.{rules}
 use Rattle.replies.proofs.SignLaws.{as_held}
 use Rattle.replies.proofs.ReplyLaws.{whole}

@@ -1,4 +1,3 @@
-use mathlib.Core.Path.{◌∙◌}
 use borrow.Author.Rules.{rules}
 use Rattle.replies.proofs.WriteLaws.{join}
 use Rattle.replies.proofs.write.write_real_field.Statement.{statement}

@@ -1,4 +1,3 @@
-use mathlib.Core.Path.{◌∙◌}
 use borrow.Author.Rules.{rules}
 use Rattle.replies.proofs.WriteLaws.{join, spelled}
 use Rattle.replies.proofs.SignLaws.{text_minus, text_plus}

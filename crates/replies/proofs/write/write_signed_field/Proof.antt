@@ -1,4 +1,4 @@
-use mathlib.Core.Path.{ap, ◌∙◌}
+use mathlib.Core.Path.{ap}
 use borrow.Author.Rules.{rules}
 use Rattle.replies.specs.Printed.{int_text}
 use Rattle.replies.proofs.WriteLaws.{join, spelled}

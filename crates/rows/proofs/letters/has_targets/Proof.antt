@@ -1,5 +1,3 @@
-use borrow.Author.Rules.{rules}
-use native.Mathlib.Omega.{arith}
 use Rattle.rows.proofs.LetterRows.{out_words, two_in_words, one_in_words}
 use Rattle.rows.proofs.letters.has_targets.Statement.{statement}
 use Rattle.rows.proofs.letters.has_targets.Tie as tie

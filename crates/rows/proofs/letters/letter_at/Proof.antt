@@ -1,6 +1,3 @@
-use Prim.Native.Nat.{◌*◌, ◌+◌, ◌/◌, ◌<◌}
-use native.Mathlib.Omega.{arith}
-use lib.ListN.{length}
 use borrow.Author.Rules.{rules}
 use Rattle.rows.proofs.LetterRows.{letter_bits}
 use Rattle.rows.proofs.letters.letter_at.Statement.{statement}

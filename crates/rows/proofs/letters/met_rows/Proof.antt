@@ -1,11 +1,11 @@
 use mathlib.Core.Path.{◌≡◌, sym, ap, ◌∙◌}
 use mathlib.Core.Bool.{Bool, true}
 use mathlib.Core.List.{[], ◌∷◌}
-use Prim.Native.Nat.{ℕ, ◌*◌, ◌≤◌, ◌<◌}
+use Prim.Native.Nat.{ℕ, ◌≤◌}
 use lib.Dec.{leb}
-use borrow.Author.Tests.{leb-true, not-true, not-false}
+use borrow.Author.Tests.{leb-true}
 use borrow.Author.Rules.{rules}
-use Rattle.terms.specs.Met.{one_or_two, in_words}
+use Rattle.terms.specs.Met.{one_or_two}
 use Rattle.rows.specs.Rows.{rows_in, met_in}
 use Rattle.rows.proofs.StepLaws.{room_yes, room_no}
 use Rattle.rows.proofs.LetterRows.{met_held, met_no_rows, met_no_words, words_one, words_two}

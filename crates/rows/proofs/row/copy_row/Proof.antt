@@ -1,6 +1,6 @@
 use Rattle.rows.proofs.RowAccess.{copied_from, copied_to}
 use mathlib.Core.Path.{sym, ◌∙◌}
-use borrow.Author.Tests.{not-true, not-false, leb-true}
+use borrow.Author.Tests.{leb-true}
 use Rattle.rows.proofs.RowAccess.{copied_same, copied_in}
 use borrow.Author.Rules.{rules}
 use Rattle.rows.proofs.row.copy_row.Statement.{statement}

@@ -1,10 +1,10 @@
 use mathlib.Core.Path.{◌≡◌, sym, ap, ◌∙◌}
 use mathlib.Core.Bool.{Bool, true}
-use Prim.Native.Nat.{ℕ, ◌*◌}
+use Prim.Native.Nat.{ℕ}
 use Rattle.words.specs.Gates.{has_two_targets}
 use Rattle.terms.specs.Met.{one_or_two, gate_targets, in_words}
 use Rattle.terms.proofs.LetterSteps.{bare_conjugated}
-use Rattle.rows.specs.Rows.{terms_in, met_in}
+use Rattle.rows.specs.Rows.{met_in}
 use Rattle.rows.proofs.LetterRows.{untouched_bare, same_stepped}
 use borrow.Author.Rules.{rules}
 use Rattle.sums.proofs.gates.conjugate_all_backward_phased.Statement.{statement}

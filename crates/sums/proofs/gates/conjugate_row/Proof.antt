@@ -1,9 +1,8 @@
 use mathlib.Core.Path.{sym, ◌∙◌}
 use native.Mathlib.Omega.{arith}
-use borrow.Author.Tests.{not-true}
 use borrow.Author.Rules.{rules}
 use Prim.Native.Nat.{◌+◌, ◌*◌, ◌≤◌, ◌<◌}
-use lib.ListN.{length, length-set}
+use lib.ListN.{length}
 use Rattle.rows.proofs.ClearLaws.{row_room}
 use Rattle.sums.proofs.GateRows.{gate_row, gate_unturned}
 use Rattle.sums.proofs.gates.conjugate_row.Statement.{statement}
