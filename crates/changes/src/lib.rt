@@ -1,1 +1,3 @@
+#![tactic(auto)]
+
 // What each change request moved, beside the definition before it: statements and proofs alone.

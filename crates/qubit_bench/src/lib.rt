@@ -1,4 +1,6 @@
 // The answer to a sheet for programs in other languages: one exported function over a sheet, lent memory and a buffer for the text.
+#![tactic(auto)]
+
 ghost use Rattle.qubit_bench.specs.Embedded.{Embedded};
 
 use replies::printed::printed;

@@ -1,26 +1,21 @@
 -- Demand 3 of the public runs, by their contracts. Assumes nothing.
-use mathlib.Core.Path.{◌≡◌, refl, sym, ap, ap₂, ◌∙◌, subst, subst⁻¹}
-use mathlib.Core.Bool.{Bool, true, ◌&&◌}
+use mathlib.Core.Path.{◌≡◌, refl, ap, ◌∙◌, subst⁻¹}
+use mathlib.Core.Bool.{Bool, true}
 use mathlib.Core.List.{List, [], ◌∷◌}
-use Prim.Native.Nat.{ℕ, zero, suc, ◌+◌, ◌*◌, min, ◌<◌}
+use Prim.Native.Nat.{ℕ, zero, suc, ◌+◌, ◌*◌, min}
 use lib.ListN.{length, get_or, take}
 use lib.Ieee.{Float, nan}
 use Rattle.words.specs.Keys.{width_of}
 use Rattle.terms.specs.Lists.{tab, All}
-use Rattle.rows.specs.Rows.{rows_in}
-use Rattle.ops.specs.declared.Op.{Op}
 use Rattle.ops.specs.declared.Op.TheVariants.{Barrier}
-use Rattle.ops.specs.declared.Run.TheVariants.{Cone}
 use Rattle.ops.specs.Task.{Task}
 use Rattle.ops.specs.Binary.{IsBinary64, RealsAreBinary64, Binary64Values}
 use Rattle.ops.specs.LineTable.{table_line}
 use Rattle.ops.specs.OpList.{numbered, op_of, op_room, op_at, ops_in, op_list}
-use Rattle.dynamics.specs.Turn.{Stage, refused, going, ask, Outcome}
+use Rattle.dynamics.specs.Turn.{Stage, ask, Outcome}
 use Rattle.cones.specs.LightCone.{Which, one, another, Way, as_full, as_cone, pick, Passes, Agree, SameEnd, same_refusal, both_succeed, end_as, Demand}
 use Rattle.cones.proofs.Demand.{demand3}
-use Rattle.turns.specs.declared.Ending.{Ending}
 use Rattle.turns.specs.SumRuns.{Results, told_by, results_of}
-use Rattle.runs.specs.ConeRuns.{Slices}
 use Rattle.runs.specs.RunsCone as R
 use Rattle.runs.specs.RunsCone.{Given, task_given, HeldBySlices, choose, Call, CalledAs, Begins, SameAnswer, OfRuns}
 

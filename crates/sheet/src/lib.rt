@@ -1,4 +1,5 @@
 // From the bytes of a sheet to its answer: questions 2 to 7 and 11, the run, the reply.
+#![tactic(auto)]
 
 // The questions that are put to the whole of a sheet's values, one before the next, by the numbers that refuse it. 5 and 6 are put together, line
 // by line (`faults`).

@@ -1,5 +1,5 @@
 -- The run of `all` in lent memory: what is asked before it, its answer, and what it leaves.
-use Rattle.std.specs.Prelude.{◌≡◌, ℕ, zero, ◌+◌, ◌*◌, Bool, cond, ◌&&◌, List, [], ◌++◌, leb, length, drop, set, replicate, Float}
+use Rattle.std.specs.Prelude.{◌≡◌, ℕ, ◌*◌, Bool, cond, ◌&&◌, List, [], ◌++◌, leb, length, drop, replicate, Float}
 use Rattle.numbers.specs.Constants.{zero64}
 use Rattle.words.specs.Keys.{width_of}
 use Rattle.rows.specs.Rows.{rows_in, words_with, coeffs_with}

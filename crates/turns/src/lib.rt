@@ -1,4 +1,5 @@
 // One turn of a run, a run of a sum under any marks with its fold, and the runs of all qubits.
+#![tactic(auto)]
 
 // The greatest number of terms so far, the discarded weight, and how many terms the ops met, summed.
 #[derive(Clone, Copy)]

@@ -28,7 +28,7 @@ use Rattle.replies.specs.Printed.{printed}
 use Rattle.sheet.specs.declared.Verdict.{Verdict}
 use Rattle.sheet.specs.declared.Verdict.TheVariants.{RefusedAt, Passed}
 use Rattle.sheet.specs.Questions.{question2, question3, question4, question11, question7, first_no, refused_or, term_fault, op_fault, first_fault, verdict}
-use Rattle.sheet.specs.Answer.{task_of, reply, refusal, reply_run, reply_to, reply_of, means_run, means_to, printed_of}
+use Rattle.sheet.specs.Answer.{task_of, refusal, reply_run, reply_to, reply_of, means_run, means_to, printed_of}
 use Rattle.sheet.specs.SheetCone.{rejoined, task_of_bytes, SameReply}
 use Rattle.sheet.specs.Screen.{bench}
 use Rattle.sheet.proofs.PassLaws.{passed_passes}

@@ -5,7 +5,6 @@ use Rattle.sheet.specs.Questions.{question_of, first_of}
 use Rattle.ops.proofs.OpListLaws.{op_counted, op_listed}
 use Rattle.ops.specs.declared.Op.TheVariants.{Native}
 use Rattle.words.specs.declared.Gate.TheVariants.{Id}
-use borrow.Author.Tests.{not-true, not-false}
 use lib.ListN.{drop, length}
 use mathlib.Core.Path.{◌≡◌, ap, ◌∙◌}
 use native.Mathlib.Omega.{arith}

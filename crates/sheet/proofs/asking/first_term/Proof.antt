@@ -7,7 +7,6 @@ use Rattle.lines.specs.TermLines.{line_on}
 use Rattle.sheet.proofs.FirstLaws.{first_start, first_stop, first_next, first_none, term_line}
 use Rattle.sheet.specs.Questions.{question_of, first_of}
 use Rattle.text.specs.Bytes.{parts, newline}
-use borrow.Author.Tests.{not-true, not-false}
 use lib.ListN.{drop}
 use mathlib.Core.List.{[]}
 use mathlib.Core.Path.{◌≡◌, ap, ◌∙◌}

@@ -1,7 +1,6 @@
 use mathlib.Core.Bool.{Bool}
 use mathlib.Core.Path.{sym, ap, ap₂}
 use Rattle.sheet.specs.Questions.{fault_of}
-use borrow.Author.Tests.{not-true, not-false}
 use Rattle.sheet.proofs.faults.fault_of.Statement.{statement}
 use Rattle.sheet.proofs.faults.fault_of.Tie as tie
 

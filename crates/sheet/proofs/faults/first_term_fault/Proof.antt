@@ -1,4 +1,4 @@
-use Prim.Native.Nat.{◌+◌, ◌-◌, ◌≤◌, ◌<◌}
+use Prim.Native.Nat.{◌+◌, ◌-◌, ◌≤◌}
 use Rattle.layout.proofs.CursorLaws.{start_next}
 use Rattle.layout.proofs.LaidLaws.{term_lines_length}
 use Rattle.layout.specs.Cursor.{start_at}

@@ -1,6 +1,5 @@
 use Rattle.sheet.proofs.HeadLaws.{first_line, third_line, fifth_line, sixth_line, no_line}
 use Rattle.sheet.specs.Questions.{question_of}
-use borrow.Author.Tests.{not-true, not-false}
 use borrow.Author.Rules.{rules}
 use Rattle.sheet.proofs.headtests.head_line.Statement.{statement}
 use Rattle.sheet.proofs.headtests.head_line.Tie as tie

@@ -1,4 +1,3 @@
-use Rattle.layout.specs.declared.Head.{Head}
 use Rattle.sheet.proofs.VerdictLaws.{refused_here, passed_on}
 use Rattle.sheet.specs.Questions.{line_of, by_line}
 use Rattle.sheet.specs.declared.Asked.TheVariants.{Three, Four, Eleven}

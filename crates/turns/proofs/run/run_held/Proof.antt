@@ -1,5 +1,4 @@
 use borrow.Author.Rules.{rules}
-use mathlib.Core.Path.{◌∙◌}
 use Rattle.ops.specs.OpList.{op_list}
 use Rattle.turns.proofs.StartLaws.{given_low, start_untouched}
 use Rattle.turns.proofs.RunLaws.{tells_ready, tells_then, run_ends}

@@ -1,7 +1,6 @@
 use mathlib.Core.Path.{sym, ap, ◌∙◌}
 use Prim.Native.Nat.{ℕ}
 use lib.ListN.{replicate}
-use borrow.Author.Tests.{not-true, not-false}
 use Rattle.ops.specs.LineTable.{task_in}
 use Rattle.ops.specs.OpList.{op_list}
 use Rattle.dynamics.specs.Outcome.{sum_run}

@@ -1,5 +1,4 @@
 use native.Mathlib.Omega.{arith}
-use borrow.Author.Tests.{not-true, not-false}
 use Rattle.turns.proofs.TurnLaws.{left_same, enforced, not_enforced, checked_fine, settled, settled_8}
 use borrow.Author.Rules.{rules}
 use Rattle.turns.proofs.turn.settle.Statement.{statement}
