@@ -1,6 +1,6 @@
 // The whole input, in a buffer.
 ghost use Rattle.std.specs.Prelude.{◌≡◌, ◌≤◌, min, length, take};
-ghost use Rattle.input.specs.Pieces.{after_bytes, next_of, Held};
+ghost use Rattle.input.specs.Pieces.{after_bytes, next_of, Held, Took, HoldsFront};
 
 use std::io::Read;
 
@@ -56,7 +56,8 @@ fn smaller(a: usize, b: usize) -> usize
 // It answers how many bytes it put there, 0 at the end of the input, or -1 where the read failed.
 fn read_at<R: Read>(reader: &mut R, buf: &mut [u8], at: usize) -> isize
     requires { at ≤ length buf.old }
-    ensures { take at buf.new ≡ take at buf.old }
+    ensures kept { take at buf.new ≡ take at buf.old }
+    ensures bytes { Took (R.remaining reader.old) (R.remaining reader.new) result at buf.new }
 {
     let end = at + smaller(4096, buf.len() - at);
     match reader.read(&mut buf[at..end]) {
@@ -67,7 +68,8 @@ fn read_at<R: Read>(reader: &mut R, buf: &mut [u8], at: usize) -> isize
 
 // Reads piece after piece, until the input ends or the buffer is full.
 pub fn read_input<R: Read>(reader: &mut R, buf: &mut [u8]) -> Input
-    ensures { Held buf.new result }
+    ensures held { Held buf.new result }
+    ensures bytes { HoldsFront (R.remaining reader.old) (R.remaining reader.new) buf.new result }
 {
     let mut at = 0;
     loop {
