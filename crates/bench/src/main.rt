@@ -1,4 +1,6 @@
 // Program `bench`: reads a sheet on standard input and prints its answer on standard output.
-fn main() {
-    console::run();
+#![tactic(auto)]
+
+fn main(rt: HostRuntime) {
+    console::run(&rt);
 }

@@ -1,4 +1,6 @@
 // `bench` on a sheet of `run=all`: a `z=` line for each wire.
-fn main() {
-    console::run();
+#![tactic(auto)]
+
+fn main(rt: HostRuntime) {
+    console::run(&rt);
 }

@@ -1,4 +1,6 @@
 // `bench` on an empty input.
-fn main() {
-    console::run();
+#![tactic(auto)]
+
+fn main(rt: HostRuntime) {
+    console::run(&rt);
 }

@@ -1,4 +1,6 @@
 // `bench` on an input of 65,537 bytes, one more than the longest sheet has: a sheet that would be answered if it were shorter.
-fn main() {
-    console::run();
+#![tactic(auto)]
+
+fn main(rt: HostRuntime) {
+    console::run(&rt);
 }

@@ -1,4 +1,6 @@
 // `bench` on a sheet that is refused.
-fn main() {
-    console::run();
+#![tactic(auto)]
+
+fn main(rt: HostRuntime) {
+    console::run(&rt);
 }

@@ -1,4 +1,6 @@
 // `bench` on a sheet of 65,536 bytes, the longest. Reading it takes many pieces.
-fn main() {
-    console::run();
+#![tactic(auto)]
+
+fn main(rt: HostRuntime) {
+    console::run(&rt);
 }

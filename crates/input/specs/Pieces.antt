@@ -1,5 +1,7 @@
--- An input that is read piece by piece into a buffer. Of the bytes that are read no contract can speak.
-use Rattle.std.specs.Prelude.{ℕ, ◌+◌, ◌-◌, ◌≤◌, cond, List, eqb, ltb, ℤ, pos, negsuc, length}
+-- An input that is read piece by piece into a buffer.
+use Rattle.std.specs.Prelude.{ℕ, ◌+◌, ◌-◌, ◌≡◌, ◌≤◌, ◌<◌, cond, List, eqb, ltb, ℤ, pos, negsuc, length, take, drop, ⊤, None, Some}
+use Rattle.std.specs.Io.KnownBytes.{Consumes, IsAtEnd}
+use Rattle.std.specs.declared.option.Option.{Option}
 use Rattle.input.specs.declared.reading.Next.{Next}
 use Rattle.input.specs.declared.reading.Next.TheVariants as next
 use Rattle.input.specs.declared.reading.Input.{Input}
@@ -18,3 +20,16 @@ next_of (pos k) at n = cond (eqb k 0) (next.Whole at) (after_bytes k at n)
 abbrev pub Held : List ℕ → Input → Type 0
 Held xs (input.Bytes k) = k ≤ length xs
 Held xs input.Failed = Unit {0}
+
+-- What one read took of the bytes that the reader had left, where those are known (`old` and `new`): as many as it answered, which lie in the buffer
+-- from `at` on; and none only at the end, or where the buffer was full. Of a read that failed nothing is asked.
+abbrev pub Took : Option (List ℕ) → Option (List ℕ) → ℤ → ℕ → List ℕ → Type 0
+Took old new (negsuc k) at xs = ⊤
+Took old new (pos k) at xs = (at + k ≤ length xs) × (Consumes old new (take k (drop at xs)) × (k ≡ 0 → at < length xs → IsAtEnd new))
+
+-- The buffer holds what the reader had left, from its first byte on and as far as the buffer takes it, and the reader has the rest. Where a read failed
+-- nothing is said.
+abbrev pub HoldsFront : Option (List ℕ) → Option (List ℕ) → List ℕ → Input → Type 0
+HoldsFront None new xs r = ⊤
+HoldsFront (Some s) new xs (input.Bytes n) = (take n xs ≡ take (length xs) s) × (new ≡ Some (drop (length xs) s))
+HoldsFront (Some s) new xs input.Failed = ⊤

@@ -1,8 +1,8 @@
 // The whole input, in a buffer.
 ghost use Rattle.std.specs.Prelude.{◌≡◌, ◌≤◌, min, length, take};
-ghost use Rattle.input.specs.Pieces.{after_bytes, next_of, Held};
+ghost use Rattle.input.specs.Pieces.{after_bytes, next_of, Held, Took, HoldsFront};
 
-use libc::STDIN_FILENO;
+use std::io::Read;
 
 // What a read tells of the input, when so many bytes of the buffer are filled: it goes on at a place, it is in the buffer as far as the buffer
 // takes it, or the read failed.
@@ -53,21 +53,27 @@ fn smaller(a: usize, b: usize) -> usize
 }
 
 // One read into the buffer from a place on, of at most 4,096 bytes, so that an input from a file comes in pieces too. The bytes before the place stay.
-fn read_at(buf: &mut [u8], at: usize) -> isize
+// It answers how many bytes it put there, 0 at the end of the input, or -1 where the read failed.
+fn read_at<R: Read>(reader: &mut R, buf: &mut [u8], at: usize) -> isize
     requires { at ≤ length buf.old }
-    ensures { take at buf.new ≡ take at buf.old }
+    ensures kept { take at buf.new ≡ take at buf.old }
+    ensures bytes { Took (R.remaining reader.old) (R.remaining reader.new) result at buf.new }
 {
     let end = at + smaller(4096, buf.len() - at);
-    libc::read(STDIN_FILENO, &mut buf[at..end])
+    match reader.read(&mut buf[at..end]) {
+        Ok(n) => n as isize,
+        Err(_) => -1,
+    }
 }
 
 // Reads piece after piece, until the input ends or the buffer is full.
-pub fn read_input(buf: &mut [u8]) -> Input
-    ensures { Held buf.new result }
+pub fn read_input<R: Read>(reader: &mut R, buf: &mut [u8]) -> Input
+    ensures held { Held buf.new result }
+    ensures bytes { HoldsFront (R.remaining reader.old) (R.remaining reader.new) buf.new result }
 {
     let mut at = 0;
     loop {
-        let got = read_at(buf, at);
+        let got = read_at(reader, buf, at);
         let len = buf.len();
         let next = after_read(got, at, len);
         match next {

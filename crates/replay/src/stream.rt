@@ -1,7 +1,6 @@
 // A stream of sheets: for each a line `#sheet N`, and then its N bytes.
 use crate::rowtext::write_rows;
 use layout::heads::read_head;
-use libc::STDOUT_FILENO;
 use replies::Reply;
 use replies::printed::printed;
 use replies::write::write_count;
@@ -73,14 +72,14 @@ fn sheet_length(line: &[u8]) -> Read {
 }
 
 // Answers one sheet on standard output. In 512 rows a run leaves at most 256 terms, each on a line of at most 174 bytes.
-fn answer_one(s: &[u8], index: usize) -> bool {
+fn answer_one<R: Print>(rt: &R, s: &[u8], index: usize) -> bool {
     let mut out = [0u8; 65536];
     let n = write_one(s, index, &mut out);
-    io::write_all(STDOUT_FILENO, part_to(&out, n))
+    rt.write_all(part_to(&out, n)).is_ok()
 }
 
 // Answers the sheets of a stream, one after another, until it ends, is no such stream, or has less of a sheet than its line tells.
-pub(crate) fn answer_all(s: &[u8]) {
+pub(crate) fn answer_all<R: Print>(rt: &R, s: &[u8]) {
     let mut rest = s;
     let mut index = 0;
     while 0 < rest.len() {
@@ -91,7 +90,7 @@ pub(crate) fn answer_all(s: &[u8]) {
         if body.len() < n {
             return;
         }
-        if !answer_one(part_to(body, n), index) {
+        if !answer_one(rt, part_to(body, n), index) {
             return;
         }
         let next = part_from(body, n);
