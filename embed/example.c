@@ -1,6 +1,6 @@
 /* Answers the sheet in the file that is named, or a Bell pair, and prints the text.
  *
- *   cc -O2 -o example embed/example.c -Ltarget/staticlib -lqubit_bench
+ *   cc -O2 -o example embed/example.c -Lcrates/qubit_bench/out -lqubit_bench
  *   ./example sheets/noisy.sheet */
 
 #include "qubit_bench.h"

@@ -1,6 +1,6 @@
 //! Answers the sheet in the file that is named, or a Bell pair, and prints the text.
 //!
-//!     rustc --edition 2021 -O -o example embed/example.rs -L target/staticlib
+//!     rustc --edition 2021 -O -o example embed/example.rs -L crates/qubit_bench/out
 //!     ./example sheets/noisy.sheet
 
 use std::io::Write;

@@ -1,7 +1,7 @@
 #!/usr/bin/env python3
 """List the functions of a program that make room for a large frame, and whether they do so at their beginning.
 
-  python3 oracle/frames.py target/bin/bench           the program, or a static library, is disassembled with objdump
+  python3 oracle/frames.py crates/bench/out/bench           the program, or a static library, is disassembled with objdump
 
 The compiler touches each page of a large frame in a loop that uses the register r11. At the beginning of a function that register is free. Further
 on it may hold a value, which the loop destroys: such a function is reported as LATE, and the exit status is 1.
