@@ -1,7 +1,7 @@
 -- One row through a gate, and a loop over the rows. Assumes nothing.
 use mathlib.Core.Path.{◌≡◌, refl, sym, ap, ap₂, ◌∙◌, subst⁻¹}
 use mathlib.Core.Bool.{Bool, true, false, cond, ◌&&◌, true≢false}
-use mathlib.Core.List.{List, ◌++◌}
+use mathlib.Core.List.{List, [], ◌∷◌, ◌++◌}
 use Prim.Native.Nat.{ℕ, zero, suc, ◌+◌, ◌-◌, ◌*◌, ◌/◌, ◌%◌, ◌≤◌, ◌<◌}
 use native.Mathlib.Nat.{le_refl, mod-lt}
 use lib.Dec.{ltb, eqb}
@@ -10,8 +10,8 @@ use borrow.Author.Tests.{eqb-true, eqb-false}
 use Rattle.words.specs.declared.Bits as B
 use Rattle.words.specs.Keys.{Key, ◌⊕◌}
 use native.Mathlib.Omega.{arith}
-use lib.ListN.{length, take, drop}
-use lib.Ieee.{Float}
+use lib.ListN.{length, take, drop, get_or}
+use lib.Ieee.{Float, nan, neg}
 use Rattle.words.specs.declared.Gate.{Gate}
 use Rattle.words.specs.Gates.{bits_at, conj_key, conj_phase, has_phase}
 use Rattle.words.proofs.GateLaws.{conj_key_length, no_phase}
@@ -92,7 +92,7 @@ module _ (g : Gate) (w a b i : ℕ) (ws : List ℕ) (cs : List Float) where
   gate_long h =
       conj_key_length g w a b (key_at (2 * w) ws i) ∙ length_key (2 * w) ws i (room_at (rows_room w (i + 1) ws cs (omega arith)) i (omega arith)).0
 
-gate_turn : (g : Gate) (w a b n i : ℕ) (l : List Term) {ws₀ ws ws' : List ℕ} {cs₀ cs cs' : List Float}
+pub gate_turn : (g : Gate) (w a b n i : ℕ) (l : List Term) {ws₀ ws ws' : List ℕ} {cs₀ cs cs' : List Float}
     → Holds (2 * w) n n (map_to (conjugated w g a b) i l) ws₀ ws cs₀ cs → n ≤ rows_in w ws₀ cs₀ → i < n
     → (ws' ≡ put_key (2 * w) ws i (conjugated w g a b (term_at (2 * w) ws cs i)).key) × (cs' ≡ put_coeff cs i (conjugated w g a b (term_at (2 * w) ws cs i)).coeff)
     → Holds (2 * w) n n (map_to (conjugated w g a b) (i + 1) l) ws₀ ws' cs₀ cs'
@@ -130,6 +130,17 @@ pub turned_half : (n : ℕ) (v : Float) → signed (eqb (n % 4 / 2 % 2) 1) v ≡
 turned_half n v = ap (λ (b : Bool). signed b v) (go (n % 4) (mod-lt n (pow_pos 2)))
   where
     go : (r : ℕ) → r < 4 → eqb (r / 2 % 2) 1 ≡ ltb 1 r
+    go zero h = refl
+    go (suc zero) h = refl
+    go (suc (suc zero)) h = refl
+    go (suc (suc (suc zero))) h = refl
+    go (suc (suc (suc (suc r)))) h = absurd (omega arith)
+
+-- the same number, found by its place
+pub turned_at : (n : ℕ) (v : Float) → get_or (v ∷ v ∷ neg v ∷ neg v ∷ []) (n % 4) nan ≡ signed (ltb 1 (n % 4)) v
+turned_at n v = go (n % 4) (mod-lt n (pow_pos 2))
+  where
+    go : (r : ℕ) → r < 4 → get_or (v ∷ v ∷ neg v ∷ neg v ∷ []) r nan ≡ signed (ltb 1 r) v
     go zero h = refl
     go (suc zero) h = refl
     go (suc (suc zero)) h = refl
