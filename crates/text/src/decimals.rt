@@ -23,6 +23,7 @@ fn push_digit(v: usize, b: u8) -> Read
 }
 
 // The number that s spells, if s is the spelling of one.
+#[tactic(auto, using(crate::proofs::ReadLaws::decimal_none, crate::proofs::ReadLaws::decimal_zero, crate::proofs::ReadLaws::decimal_one, crate::proofs::ReadLaws::decimal_more))]
 pub fn read_decimal(s: &[u8]) -> Read
     ensures { result ≡ decimal s.now }
 {
