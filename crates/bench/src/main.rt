@@ -2,5 +2,5 @@
 #![tactic(auto)]
 
 fn main(rt: HostRuntime) {
-    console::run(&rt);
+    console::run(&mut rt.reader(), &mut rt.stdout(), &mut rt.stderr());
 }

@@ -1,9 +1,19 @@
--- The whole text lies in a buffer of 8,192 bytes. Assumes nothing.
-use Rattle.std.proofs.Common.{◌≡◌, ℕ, ◌≤◌, List, length, take, arith, subst, sym}
+-- The whole text lies in a buffer of 8,192 bytes, and a buffer of 65,537 takes enough of every input. Assumes nothing.
+use Rattle.std.proofs.Common.{◌≡◌, ℕ, ◌≤◌, ◌<◌, List, length, take, drop, arith, refl, subst, sym, ap, ◌∙◌}
+use mathlib.Core.Logic.{⊎_elim}
+use Rattle.std.proofs.lemmas.List.{length-take-le, take_all}
+use Rattle.std.specs.declared.option.Option.{Option}
+use Rattle.std.specs.Prelude.{None, Some}
+use Rattle.input.specs.Pieces.{HoldsFront}
+use Rattle.input.specs.declared.reading.Input.TheVariants as input
 use Rattle.replies.specs.Written.{Printing}
 use Rattle.sheet.specs.Screen.{bench}
 use Rattle.console.specs.Told.{Shown}
+use Rattle.console.specs.Delivery.{Fed, IsInput, LosesFront}
+use Rattle.console.specs.declared.Told.TheVariants.{Text}
+use Rattle.terms.proofs.CaseLaws.{lt_or_le}
 use Rattle.sheet.proofs.LengthLaws.{bench_fits, whole_text}
+use Rattle.sheet.proofs.ScreenLaws.{bench_long}
 
 -- what is shown for the first k bytes of the buffer, once it was printed
 pub screened : (k n : ℕ) (buf out out' : List ℕ) → k ≤ length buf → Printing (bench (take k buf)) n out out' → length out ≡ 8192 → length out' ≡ length out
@@ -15,3 +25,26 @@ screened k n buf out out' read p long kept =
       whole = omega (arith, p.count, kept, room);
       shown = whole_text (bench (take k buf)) n out out' p room;
     }
+
+-- an input that does not fit is too long, whatever follows
+bench_cut : (s : List ℕ) → bench (take 65537 s) ≡ bench s
+bench_cut s =
+    ⊎_elim
+    (λ (h : length s < 65537). ap bench (take_all 65537 s (omega arith)))
+    (λ (h : 65537 ≤ length s). sym (bench_long (take 65537 s) (omega (arith, length-take-le 65537 s h))) ∙ bench_long s (omega arith))
+    (lt_or_le (length s) 65537)
+
+pub fed : (old new : Option (List ℕ)) (buf : List ℕ) (k n : ℕ) → length buf ≡ 65537 → HoldsFront old new buf (input.Bytes k) → Fed old new buf (Text k n)
+fed None new buf k n long h = tt
+fed (Some s) new buf k n long h =
+    (ap bench h.0 ∙ subst (λ (m : ℕ). bench (take m s) ≡ bench s) (sym long) (bench_cut s), h.1)
+
+-- the input that a text is for
+pub input_of : (old new : Option (List ℕ)) (buf : List ℕ) (k n : ℕ) → Fed old new buf (Text k n) → (xs : List ℕ) × IsInput old xs × (bench (take k buf) ≡ bench xs)
+input_of None new buf k n f = (take k buf, tt, refl)
+input_of (Some s) new buf k n f = (s, refl, f.0)
+
+-- .. and what the reader has left
+pub lost : (old new : Option (List ℕ)) (buf : List ℕ) (k n : ℕ) → length buf ≡ 65537 → Fed old new buf (Text k n) → LosesFront old new
+lost None new buf k n long f = tt
+lost (Some s) new buf k n long f = f.1 ∙ ap (λ (m : ℕ). Some (drop m s)) long

@@ -1,0 +1,26 @@
+-- The text is that of the input, and on the other output nothing is written where all went well.
+use Rattle.std.proofs.Common.{◌∙◌}
+use Rattle.console.proofs.TextLaws.{input_of, lost}
+use Rattle.console.proofs.WriteLaws.{keeps_itself}
+use Rattle.console.proofs.run.Goals as goal
+
+pub returns-then-write_text-clause-delivers : goal.returns-then-write_text-clause-delivers
+returns-then-write_text-clause-delivers g c =
+    let x = input_of _ _ _ _ _ c.in-Text.ensures.fed in
+    let e = c.in-Text.ensures.says.shown ∙ x.2 in
+    (x.0, x.1, rw (← e) c.if-write_text.ensures, keeps_itself _)
+
+pub returns-then-write_text-clause-input : goal.returns-then-write_text-clause-input
+returns-then-write_text-clause-input g c = lost _ _ _ _ _ c.answer_input-told.auto.buf c.in-Text.ensures.fed
+
+pub returns-else-write_text-clause-delivers : goal.returns-else-write_text-clause-delivers
+returns-else-write_text-clause-delivers g c =
+    let x = input_of _ _ _ _ _ c.in-Text.ensures.fed in
+    let e = c.in-Text.ensures.says.shown ∙ x.2 in
+    (x.0, x.1, rw (← e) c.if-write_text.ensures, c.write_text-in-Text.ensures)
+
+pub returns-else-write_text-clause-input : goal.returns-else-write_text-clause-input
+returns-else-write_text-clause-input g c = lost _ _ _ _ _ c.answer_input-told.auto.buf c.in-Text.ensures.fed
+
+pub returns-in-Unread-clause-delivers : goal.returns-in-Unread-clause-delivers
+returns-in-Unread-clause-delivers g c = (keeps_itself _, c.write_text-in-Unread.ensures)
