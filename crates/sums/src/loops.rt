@@ -1,5 +1,7 @@
 // A loop over the rows for each gate. In each the gate is a constant, so that the compiler makes of it a loop without a choice among gates: with one loop
-// for all of them a gate on many rows takes half as long again. The loops differ in nothing but the gate.
+// for all of them a run of many rows takes a sixth longer (docs/SPEED.md). The loops differ in nothing but the gate.
+#![tactic(auto, using(crate::proofs::GateRows::midway_start, crate::proofs::GateRows::midway_row, crate::proofs::GateRows::midway_end, crate::proofs::GateRows::through_arm))]
+
 ghost use Rattle.std.specs.Prelude.{◌≤◌};
 ghost use Rattle.rows.specs.Rows.{rows_in};
 ghost use Rattle.sums.specs.Through.{Through};
