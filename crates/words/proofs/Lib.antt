@@ -11,4 +11,3 @@ pub mod RowLaws
 pub mod BitNumbers
 pub mod Place
 pub mod OnesLaws
-pub mod QuarterLaws
