@@ -15,11 +15,11 @@ fn whole_words(key: &[u64], w: usize) -> usize
 pub fn y_parity(key: &[u64], w: usize) -> usize
     ensures { result ≡ ys_of w key.now % 2 }
 {
-    let mut folded = 0;
+    let mut folded = 0u64;
     for j in 0..whole_words(key, w) {
         folded ^= key[j] & key[w + j];
     }
-    u64::count_ones(folded) as usize % 2
+    folded.count_ones() as usize % 2
 }
 
 // How often a word's coefficient is turned by i: once for each Y, so a number modulo 4.
@@ -29,7 +29,7 @@ pub fn y_quarters(key: &[u64], w: usize) -> u8
 {
     let mut quarters = 0;
     for j in 0..whole_words(key, w) {
-        quarters = (quarters + u64::count_ones(key[j] & key[w + j])) % 4;
+        quarters = (quarters + (key[j] & key[w + j]).count_ones()) % 4;
     }
     quarters as u8
 }
