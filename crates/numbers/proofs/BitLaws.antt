@@ -1,8 +1,8 @@
 -- The bits of binary64: what finite value bits stand for, the bits of q * 2 ^ k smallest values for a q of 53 digits, which bits are NaNs', and what is printed.
 -- That a number and its bits give each other back is in lib.Ieee.Bits: `of_bits-to_bits`, `to_bits-of_bits`, `to_bits-lt`, `of_bits-fits`.
 use mathlib.Core.Path.{◌≡◌, refl, sym, ap, ◌∙◌, subst}
-use Prim.Native.Nat.{ℕ, zero, suc, ◌+◌, ◌*◌, ◌/◌, ◌%◌, ◌^◌, ◌≤◌, ◌<◌}
-use native.Mathlib.Nat.{mod-le, le_of_lt, le_trans, lt_of_lt_of_le, not-le_of_lt, lt_of_not-le, lt_irrefl, pow-suc, zero-lt-suc, div-lt_iff_lt-mul}
+use Prim.Native.Nat.{ℕ, zero, suc, ◌+◌, ◌-◌, ◌*◌, ◌/◌, ◌%◌, ◌^◌, ◌≤◌, ◌<◌}
+use native.Mathlib.Nat.{le-add_right, mod-le, le_of_lt, le_trans, lt_of_lt_of_le, not-le_of_lt, lt_of_not-le, lt_irrefl, pow-suc, zero-lt-suc, div-lt_iff_lt-mul}
 use native.Mathlib.Omega.{arith}
 use mathlib.Core.Bool.{Bool, true, false, not, cond}
 use lib.Dec.{T, leb, ltb, eqb, leb→le, eqb→eq, lt→ltb, not_T}
@@ -15,7 +15,7 @@ use lib.Ieee.Bits.{is_true, is_false, cond_no, of_bits-to_bits, nan_bits_is, nan
 use lib.Ieee.Exact.{HasValue, odd_sign}
 use Rattle.numbers.specs.Constants.{zero64}
 use Rattle.numbers.specs.Tests.{is_finite, is_zero}
-use Rattle.numbers.specs.Bits.{printed_bits}
+use Rattle.numbers.specs.Bits.{printed_bits, IsParts}
 use Rattle.numbers.specs.Close.{◌≈◌, zeros}
 use Rattle.numbers.proofs.CloseLaws.{≈_of, ≈_sym, ≈_trans}
 use Rattle.numbers.proofs.TestLaws.{holds, fails, equal_zero}
@@ -74,6 +74,29 @@ module _ (x : Float) (held : T (fits binary64 x)) (finite : is_finite x ≡ true
   pub normal_value : (k : ℕ) → b % 2 ^ 63 / 2 ^ 52 ≡ suc k → HasValue x (leb (2 ^ 63) b) ((2 ^ 52 + b % 2 ^ 52) * 2 ^ k) (2 ^ 1074)
   normal_value k e = from_digits (2 ^ 52 + b % 2 ^ 52) k (rw e (under_ones (leb (2 ^ 63) b) (b % 2 ^ 52) k (rw e at field_lt)))
 
+  few : b % 2 ^ 52 < 2 ^ 53
+  few = small b
+    where
+      small : (b : ℕ) → b % 2 ^ 52 < 2 ^ 53
+      small b = omega arith
+
+  pub low_parts : b % 2 ^ 63 / 2 ^ 52 ≡ 0 → IsParts x (leb (2 ^ 63) b) (b % 2 ^ 52) 0
+  low_parts e = record { value = low_value e; digits = few; power = omega arith; lead = λ h. omega arith }
+
+  pub normal_parts : (b % 2 ^ 63 / 2 ^ 52 ≡ 0 → ⊥) → IsParts x (leb (2 ^ 63) b) (2 ^ 52 + b % 2 ^ 52) (b % 2 ^ 63 / 2 ^ 52 - 1)
+  normal_parts n =
+      let f = b % 2 ^ 63 / 2 ^ 52 in
+      record { value = normal_value (f - 1) (pred f n); digits = small b; power = less f field_lt; lead = λ h. le-add_right (2 ^ 52) (b % 2 ^ 52) }
+    where
+      pred : (f : ℕ) → (f ≡ 0 → ⊥) → f ≡ suc (f - 1)
+      pred f h = omega arith
+
+      less : (f : ℕ) → f < 2047 → f - 1 ≤ 2045
+      less f h = omega arith
+
+      small : (b : ℕ) → 2 ^ 52 + b % 2 ^ 52 < 2 ^ 53
+      small b = omega arith
+
 -- ---- the bits of q * 2 ^ k smallest values
 
 -- one digit more to look at changes nothing
@@ -130,11 +153,11 @@ units_bits q k lo hi l =
 
 -- ---- NaNs, by a test of the number and by a test of the bits
 
-pub itself_no_nan : (x : Float) → ne x x ≡ false → T (not (is_nan x))
-unfolding ne is_nan
-itself_no_nan nan p = absurd (fails p tt)
-itself_no_nan (inf s) p = tt
-itself_no_nan (fin s m e) p = tt
+pub nan_bits_of : (x : Float) → is_nan x ≡ true → 0x7ff8_0000_0000_0000 ≡ to_bits binary64 x
+unfolding is_nan to_bits
+nan_bits_of nan p = refl
+nan_bits_of (inf s) p = absurd (holds p)
+nan_bits_of (fin s m e) p = absurd (holds p)
 
 is_nan_lem : (x : Float) → T (is_nan x) → x ≡ nan
 unfolding is_nan
@@ -145,6 +168,10 @@ is_nan_lem (fin s m e) t = absurd t
 -- 7ff0000000000000 is the infinity's
 pub nan_bits_lem : (b : ℕ) → 0x7ff0_0000_0000_0000 < b % 2 ^ 63 → of_bits binary64 b ≡ nan
 nan_bits_lem b h = is_nan_lem (of_bits binary64 b) (subst T (sym (nan_bits_above binary64 b) ∙ nan_bits_is binary64 b) (lt→ltb 0x7ff0_0000_0000_0000 (b % 2 ^ 63) h))
+
+pub nan_same : (b : ℕ) → 0x7ff0_0000_0000_0000 < b % 2 ^ 63 → of_bits binary64 0x7ff8_0000_0000_0000 ≡ of_bits binary64 b
+unfolding of_bits
+nan_same b h = sym (nan_bits_lem b h)
 
 pub number_bits : (b : ℕ) → b % 2 ^ 63 ≤ 0x7ff0_0000_0000_0000 → T (not (nan_bits binary64 b))
 number_bits b h = subst (λ (t : Bool). T (not t)) (sym (nan_bits_above binary64 b)) (le→nltb 0x7ff0_0000_0000_0000 (b % 2 ^ 63) h)

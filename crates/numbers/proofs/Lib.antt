@@ -7,6 +7,7 @@ pub mod TestLaws
 pub mod BitLaws
 pub mod RootLaws
 pub mod RootNearest
+pub mod StdRoot
 pub mod ShownLaws
 pub mod FairLaws
 pub mod CutLaws

@@ -10,6 +10,9 @@ use lib.Ieee.{Float, nan, inf, fin, binary64, up, down, lt, eq, le, neg, fits, i
 use lib.Ieee.Exact.{HasValue}
 use lib.Ieee.Fits.{up_pos}
 use borrow.Author.Tests.{ltb-true, ltb-false}
+use Rattle.std.specs.Float.{float_is_finite, float_with_sign}
+use Rattle.std.specs.Ordering.{is_le, is_some_and, partial_le, float_partial_cmp}
+use Rattle.std.proofs.Common.{Some, None, ◌||◌, cond, Less, Equal, Greater}
 use Rattle.numbers.specs.Constants.{zero64}
 use Rattle.numbers.specs.Tests.{is_finite, abs_of, is_epsilon, in_sine, in_unit}
 use Rattle.numbers.specs.Close.{◌≈◌, same, zeros}
@@ -21,6 +24,18 @@ holds p = subst T (sym p) tt
 
 pub fails : {b : Bool} → b ≡ false → T b → ⊥
 fails p t = subst T p t
+
+-- ---- in a range, as `contains` answers it
+
+pub le_of_cmp : (x y : Float) → partial_le float_partial_cmp x y ≡ le x y
+unfolding le
+le_of_cmp x y = go (lt x y) (eq x y) (lt y x)
+  where
+    go : (a b c : Bool) → is_some_and is_le (cond a (Some Less) (cond b (Some Equal) (cond c (Some Greater) None))) ≡ (a || b)
+    go true b c = refl
+    go false true c = refl
+    go false false true = refl
+    go false false false = refl
 
 -- ---- finite
 
@@ -34,6 +49,18 @@ unfolding is_nan
 finite_no_nan nan p = absurd (holds p)
 finite_no_nan (inf s) p = tt
 finite_no_nan (fin s m e) p = tt
+
+pub finite_same : (x : Float) → float_is_finite x ≡ is_finite x
+unfolding float_is_finite
+finite_same nan = refl
+finite_same (inf s) = refl
+finite_same (fin s m e) = refl
+
+pub sign_cleared : (x : Float) → float_with_sign false x ≡ abs_of x
+unfolding float_with_sign
+sign_cleared nan = refl
+sign_cleared (inf s) = refl
+sign_cleared (fin s m e) = refl
 
 pub between_infinities : (x : Float) → (lt (inf true) x && lt x (inf false)) ≡ is_finite x
 unfolding lt
