@@ -12,6 +12,5 @@ pub mod ShownLaws
 pub mod FairLaws
 pub mod CutLaws
 pub mod NormLaws
-mod LimbLaws
 mod Squares
 mod Rounded

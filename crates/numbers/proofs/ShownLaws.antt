@@ -14,7 +14,6 @@ use mir.Syntax.{w64}
 use mir.Val.{SFits, to_z, of_z}
 use mir.ValLaws.{to_z_pos, to_z-of_z}
 use Rattle.numbers.specs.Tests.{is_finite}
-use Rattle.numbers.specs.Bits.{IsParts}
 use Rattle.numbers.specs.Shown.{ruled, most_shown, signed, shown_of}
 use Rattle.numbers.proofs.TestLaws.{fails}
 use Rattle.numbers.proofs.Rounded.{compare_lt, compare_eq, compare_gt}
@@ -111,11 +110,11 @@ minus_fits (suc n) h = record { sfits = small n (le_of_lt h) }
 few : (a : ℕ) {n : ℕ} → n ≡ min a most_shown → n ≤ most_shown
 few a e = le_trans (le_of_eq e) (min-le_right a most_shown)
 
-module _ (x : Float) (s : Bool) (m e n : ℕ) (is : IsParts x s m e) (held : n ≡ min (ruled (1000 * (m * 2 ^ e)) (2 ^ 1074)) most_shown) where
+module _ (x : Float) (s : Bool) (m e n : ℕ) (is : HasValue x s (m * 2 ^ e) (2 ^ 1074)) (held : n ≡ min (ruled (1000 * (m * 2 ^ e)) (2 ^ 1074)) most_shown) where
   pub shown_minus : s ≡ true → to_z w64 (of_z w64 (pos 0 -ℤ to_z w64 n)) ≡ shown_of x
   shown_minus t =
       ap (λ (z : ℤ). to_z w64 (of_z w64 z)) (negated n (few _ held)) ∙ to_z-of_z w64 (neg_ℤ (pos n)) (minus_fits n (few _ held))
-      ∙ ap (λ (b : Bool). signed b n) (sym t) ∙ shown_value x s (m * 2 ^ e) n is.value held
+      ∙ ap (λ (b : Bool). signed b n) (sym t) ∙ shown_value x s (m * 2 ^ e) n is held
 
   pub shown_plus : s ≡ false → to_z w64 n ≡ shown_of x
-  shown_plus t = positive n (few _ held) ∙ ap (λ (b : Bool). signed b n) (sym t) ∙ shown_value x s (m * 2 ^ e) n is.value held
+  shown_plus t = positive n (few _ held) ∙ ap (λ (b : Bool). signed b n) (sym t) ∙ shown_value x s (m * 2 ^ e) n is held

@@ -2,7 +2,7 @@
 -- exact, and rounds that once: each binary64 and each middle between two is a whole number of such places, so it lies on the same side of them as the root.
 use mathlib.Core.Path.{◌≡◌, refl, sym, ap, ap₂, ◌∙◌, subst, subst₂}
 use Prim.Native.Nat.{ℕ, zero, suc, ◌+◌, ◌-◌, ◌*◌, ◌/◌, ◌%◌, ◌^◌, ◌≤◌, ◌<◌, compare, Ordering}
-use native.Mathlib.Nat.{le_trans, le_of_eq, lt_of_lt_of_le, lt_of_le_of_lt, eq-or-lt_of_le, mul_assoc, mul_right_comm, mul-le-mul_right, mul-lt-mul_of_pos_right, mul-div_cancel, div-eq_of_lt-le, div-add-mod', suc-mul}
+use native.Mathlib.Nat.{le_trans, le_of_eq, lt_of_lt_of_le, lt_of_le_of_lt, eq-or-lt_of_le, mul_assoc, mul_right_comm, mul-le-mul_right, mul-lt-mul_of_pos_right, mul-div_cancel, div-eq_of_lt-le, div-add-mod'}
 use native.Mathlib.Omega.{arith}
 use native.Mathlib.Decide.{dec_lt}
 use mathlib.Core.Bool.{Bool, true, false, cond}
@@ -10,8 +10,7 @@ use mathlib.Core.Logic.{inl, inr}
 use lib.Dec.{T, eqb}
 use lib.IntN.{pos}
 use lib.Pow.{pow-add, pow_pos, shr-shr}
-use lib.Ieee.{Float, nan, inf, fin, binary64, up, down, size, nearest, units, round, root_below, root_twice, sqrt, lt, eq, fits, of_bits}
-use lib.Ieee.Exact.{HasValue}
+use lib.Ieee.{Float, nan, inf, fin, binary64, up, down, size, nearest, units, round, root_below, root_twice, sqrt, fits}
 use lib.Ieee.Fits.{down_pos}
 use lib.Ieee.Nearest.{div_same}
 use lib.Ieee.Root.{whole_part}
@@ -69,9 +68,9 @@ module _ (M R h t : ℕ) (lo : R * R ≤ M) (hi : M < (R + 1) * (R + 1)) (is : t
       let p : h ≤ R = omega arith in
       elim (eq-or-lt_of_le p) [
         | inl e ↦
-          let n : R * R ≡ M → ⊥ = λ (s : R * R ≡ M). differ (ap (λ (z : ℕ). z * z) e ∙ s) in
-          let o : t ≡ 2 * R + 1 = is ∙ ap (λ (b : Bool). 2 * R + cond b 0 1) (ne_eqb (R * R) M n) in
-          omega arith
+            let n : R * R ≡ M → ⊥ = λ (s : R * R ≡ M). differ (ap (λ (z : ℕ). z * z) e ∙ s) in
+            let o : t ≡ 2 * R + 1 = is ∙ ap (λ (b : Bool). 2 * R + cond b 0 1) (ne_eqb (R * R) M n) in
+            omega arith
         | inr l ↦ omega (arith, at_least)
       ]
     where

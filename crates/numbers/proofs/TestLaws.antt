@@ -1,15 +1,14 @@
 -- Laws of the tests and the absolute value: what each test says of a number, and what the code's comparisons with zero say.
 use mathlib.Core.Path.{◌≡◌, refl, sym, subst}
-use Prim.Native.Nat.{ℕ, zero, suc, ◌+◌, ◌*◌, ◌<◌}
-use native.Mathlib.Nat.{zero-mul, mul-pos, zero-lt-suc}
+use Prim.Native.Nat.{ℕ, ◌*◌}
+use native.Mathlib.Nat.{zero-mul}
 use native.Mathlib.Omega.{arith}
 use mathlib.Core.Bool.{Bool, true, false, not, ◌&&◌, beq, or-true}
 use lib.IntN.{ℤ, pos}
 use lib.Dec.{T}
 use lib.Ieee.{Float, nan, inf, fin, binary64, up, down, lt, eq, le, neg, fits, is_nan, of_bits}
 use lib.Ieee.Exact.{HasValue}
-use lib.Ieee.Fits.{up_pos}
-use borrow.Author.Tests.{ltb-true, ltb-false}
+use borrow.Author.Tests.{ltb-true}
 use Rattle.std.specs.Float.{float_is_finite, float_with_sign}
 use Rattle.std.specs.Ordering.{is_le, is_some_and, partial_le, float_partial_cmp}
 use Rattle.std.proofs.Common.{Some, None, ◌||◌, cond, Less, Equal, Greater}
@@ -62,13 +61,6 @@ sign_cleared nan = refl
 sign_cleared (inf s) = refl
 sign_cleared (fin s m e) = refl
 
-pub between_infinities : (x : Float) → (lt (inf true) x && lt x (inf false)) ≡ is_finite x
-unfolding lt
-between_infinities nan = refl
-between_infinities (inf true) = refl
-between_infinities (inf false) = refl
-between_infinities (fin s m e) = refl
-
 -- from one finite number to another
 bounded : (s t : Bool) (m n : ℕ) (e d : ℤ) (x : Float) → (le (fin s m e) x && le x (fin t n d)) ≡ true → is_finite x ≡ true
 unfolding le lt eq
@@ -109,22 +101,3 @@ pub zero_not_above : (s : Bool) (e : ℤ) → lt zero64 (fin s 0 e) ≡ true →
 unfolding lt of_bits
 zero_not_above true e p = holds p
 zero_not_above false e p = omega (arith, ltb-true (0 * 1 * down e) (0 * up e * 1) p)
-
-pub below_zero : (x : Float) → lt x zero64 ≡ true → abs_of x ≡ neg x
-unfolding lt neg of_bits
-below_zero nan p = absurd (holds p)
-below_zero (inf true) p = refl
-below_zero (inf false) p = absurd (holds p)
-below_zero (fin true m e) p = refl
-below_zero (fin false m e) p = absurd (omega (arith, ltb-true (m * up e * 1) (0 * 1 * down e) p))
-
-pub above_zero : (x : Float) → lt x zero64 ≡ false → eq x zero64 ≡ false → abs_of x ≡ x
-unfolding lt of_bits
-above_zero nan p q = refl
-above_zero (inf true) p q = absurd (fails p tt)
-above_zero (inf false) p q = refl
-above_zero (fin false m e) p q = refl
-above_zero (fin true zero e) p q = absurd (fails q (holds (zero_equal true e)))
-above_zero (fin true (suc m) e) p q =
-    let a : 0 < suc m * up e = mul-pos (zero-lt-suc m) (up_pos e) in
-    absurd (omega (arith, ltb-false 0 (suc m * up e * 1 + 0 * 1 * down e) p))

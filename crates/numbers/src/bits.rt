@@ -1,9 +1,10 @@
 // A number and the 64 bits that stand for it.
-ghost use Rattle.std.specs.Prelude.{◌≡◌, ◌^◌, ◌<◌, ◌≤◌, false, MatchOption};
+ghost use Rattle.std.specs.Prelude.{◌≡◌, ◌*◌, ◌^◌, ◌<◌, ◌≤◌, false, MatchOption};
 ghost use Rattle.std.specs.Float.{binary64};
 ghost use Rattle.std.specs.Float.Ieee.{to_bits, of_bits};
+ghost use Rattle.std.specs.Float.Ieee.Exact.{HasValue};
 ghost use Rattle.numbers.specs.Tests.{is_finite};
-ghost use Rattle.numbers.specs.Bits.{printed_bits, IsParts};
+ghost use Rattle.numbers.specs.Bits.{printed_bits};
 
 use crate::tests::is_finite;
 
@@ -47,9 +48,9 @@ pub(crate) struct Parts {
 }
 
 // The parts of x; None for a NaN and an infinity.
-#[tactic(auto, using(crate::proofs::TestLaws::finite_no_nan, crate::proofs::BitLaws::low_parts, crate::proofs::BitLaws::normal_parts))]
+#[tactic(auto, using(crate::proofs::TestLaws::finite_no_nan, crate::proofs::BitLaws::low_value, crate::proofs::BitLaws::normal_value))]
 pub(crate) fn parts_of(x: f64) -> Option<Parts>
-    ensures { MatchOption result (is_finite x ≡ false) (λ p. IsParts x p.minus p.digits p.power) }
+    ensures { MatchOption result (is_finite x ≡ false) (λ p. HasValue x p.minus (p.digits * 2 ^ p.power) (2 ^ 1074)) }
 {
     if !is_finite(x) {
         return None;
