@@ -1,4 +1,5 @@
 // `bench` on an empty input.
+// A program of its own, with the same one call: the gate runs a program on one input.
 #![tactic(auto)]
 
 fn main(rt: HostRuntime) {
