@@ -6,14 +6,7 @@ ghost use Rattle.text.specs.Bytes.{index, before, after, begins, same};
 pub fn find(s: &[u8], c: u8) -> usize
     ensures { result ≡ index c s.now }
 {
-    let mut i = 0;
-    while i < s.len() {
-        if s[i] == c {
-            return i;
-        }
-        i += 1;
-    }
-    i
+    s.iter().position(|b| *b == c).unwrap_or(s.len())
 }
 
 // The part before the first c: all of s where there is none.
@@ -50,25 +43,12 @@ pub fn part_to(s: &[u8], n: usize) -> &[u8]
 pub fn starts_with(s: &[u8], k: &[u8]) -> bool
     ensures { result ≡ begins k.now s.now }
 {
-    if s.len() < k.len() {
-        return false;
-    }
-    let mut i = 0;
-    while i < k.len() {
-        if s[i] != k[i] {
-            return false;
-        }
-        i += 1;
-    }
-    true
+    s.starts_with(k)
 }
 
 // Whether s is k.
 pub fn is_text(s: &[u8], k: &[u8]) -> bool
     ensures { result ≡ same k.now s.now }
 {
-    if s.len() != k.len() {
-        return false;
-    }
-    starts_with(s, k)
+    s == k
 }
