@@ -10,7 +10,7 @@ use borrow.Author.Tests.{eq-eqb, ne_eqb, eqb-true, ltb-true, ltb-false}
 use lib.ListN.{length, get_or, take, drop, length-drop, drop_of_length-le}
 use lib.Seq.{drop-drop, take_all}
 use lib.Dec.{eqb, ltb}
-use Rattle.std.specs.List.{position_or_len}
+use Rattle.std.specs.List.{position_or_len, slice_split, onto_first}
 use Rattle.std.specs.Prelude.{Option, Some, None, unwrap_or, not}
 use Rattle.std.proofs.lemmas.Bool.Decides.{nat_tests}
 use lib.Pointwise.{pointwise}
@@ -32,7 +32,7 @@ index_position c (b ∷ bs) = go (index_position c bs) (eqb b c)
     go ih true = refl
     go ih false = omega (arith, ih)
 
-index_within : (c : ℕ) (s : List ℕ) → index c s ≤ length s
+pub index_within : (c : ℕ) (s : List ℕ) → index c s ≤ length s
 unfolding index
 index_within c [] = omega arith
 index_within c (b ∷ bs) = go (index_within c bs) (eqb b c)
@@ -105,6 +105,17 @@ parts_some c (b ∷ bs) = go (parts_some c bs) (eqb b c)
     go : 0 < length (parts c bs) → (t : Bool) → 0 < length (cond t ([] ∷ parts c bs) (on_first b (parts c bs)))
     go k true = omega arith
     go k false = first (parts c bs) k
+
+-- they are what std's `split` gives
+pub parts_split : (c : ℕ) (s : List ℕ) → slice_split (λ b. eqb b c) s ≡ parts c s
+unfolding parts on_first
+parts_split c [] = refl
+parts_split c (b ∷ bs) = go (slice_split (λ b. eqb b c) bs) (parts c bs) (parts_split c bs) (parts_some c bs) (eqb b c)
+  where
+    go : (qs ps : List (List ℕ)) → qs ≡ ps → 0 < length ps → (t : Bool) → cond t ([] ∷ qs) (onto_first b qs) ≡ cond t ([] ∷ ps) (on_first b ps)
+    go qs ps e k true = rw e
+    go qs [] e k false = absurd (omega (arith, k))
+    go qs (p ∷ ps) e k false = rw e
 
 -- ---- a cursor at a place of a text, r the text from there, n where the next c stands in r
 

@@ -10,33 +10,33 @@ pub fn find(s: &[u8], c: u8) -> usize
 }
 
 // The part before the first c: all of s where there is none.
+#[tactic(auto, using(crate::proofs::PartLaws::index_within))]
 pub fn part_before(s: &[u8], c: u8) -> &[u8]
     ensures { result.now ≡ before c s.now }
 {
-    let n = find(s, c);
-    if n < s.len() { &s[..n] } else { s }
+    &s[..find(s, c)]
 }
 
 // The part after the first c: nothing where there is none.
+#[tactic(auto, using(crate::proofs::PartLaws::index_within))]
 pub fn part_after(s: &[u8], c: u8) -> &[u8]
     ensures { result.now ≡ after c s.now }
 {
-    let n = find(s, c);
-    if n < s.len() { &s[n + 1..] } else { &s[..0] }
+    part_from(s, find(s, c) + 1)
 }
 
 // The part from n on: nothing where n is past the end.
 pub fn part_from(s: &[u8], n: usize) -> &[u8]
     ensures { result.now ≡ drop n s.now }
 {
-    if n <= s.len() { &s[n..] } else { &s[..0] }
+    &s[n.min(s.len())..]
 }
 
 // The first n bytes: all of s where there are fewer.
 pub fn part_to(s: &[u8], n: usize) -> &[u8]
     ensures { result.now ≡ take n s.now }
 {
-    if n <= s.len() { &s[..n] } else { s }
+    &s[..n.min(s.len())]
 }
 
 // Whether s starts with the bytes of k.
