@@ -30,6 +30,7 @@ use Rattle.lines.specs.TermLines.{weight_on, factors_on, line_on, placed, word_l
 use Rattle.lines.proofs.WordLaws.{length_all}
 use Rattle.layout.specs.declared.Head.{Head}
 use Rattle.layout.specs.Cursor.{line_at, start_at}
+use Rattle.std.specs.Prelude.{None}
 use Rattle.layout.specs.Layout.{question1, term_lines, sheet_ops}
 use Rattle.layout.specs.Loaded.{op_line, codes_of, reals_of, codes_with, reals_with, OpsLoaded, row_with, keys_with, weights_with, holds_lines, LinesLoaded}
 use Rattle.layout.proofs.CursorLaws.{line_there, start_add}
@@ -329,7 +330,7 @@ module _ (h : Head) (ls : List (List ℕ)) (cs cs' : List ℕ) (rs rs' : List Fl
   ops_reals_long = reals_long (op_line h ls) cs rs count (omega arith) L.reals
 
   -- if both slices hold all ops, which are at most 4,096, and the sheet is laid out, then its op list is read from them
-  pub ops_loaded : 3 * h.ops ≤ length cs → 3 * h.ops ≤ length rs → h.ops ≤ 4096 → question1 h ls ≡ 0 → slices.op_list h.ops cs' rs' ≡ sheet_ops h ls
+  pub ops_loaded : 3 * h.ops ≤ length cs → 3 * h.ops ≤ length rs → h.ops ≤ 4096 → question1 h ls ≡ None → slices.op_list h.ops cs' rs' ≡ sheet_ops h ls
   ops_loaded hc hr few laid =
       let f : ℕ → Op = op_line h ls in
       let all : count ≡ min h.ops 4096 = omega (arith, hc, hr, few) in
@@ -360,7 +361,7 @@ module _ (w : ℕ) (h : Head) (ls : List (List ℕ)) (K K' : List ℕ) (W W' : L
       go false e = refl
 
   -- if both buffers hold all `term` lines, the words were zero and the sheet is laid out, then the table has the `term` lines of the sheet
-  pub lines_loaded : h.terms * (2 * w) ≤ length K → h.terms ≤ length W → K ≡ replicate (length K) 0 → question1 h ls ≡ 0
+  pub lines_loaded : h.terms * (2 * w) ≤ length K → h.terms ≤ length W → K ≡ replicate (length K) 0 → question1 h ls ≡ None
       → tab h.terms (table.table_line w K' W') ≡ map (word_line w) (term_lines h ls)
   unfolding line_on zeros keys_with weights_with
   lines_loaded room has clear laid =
