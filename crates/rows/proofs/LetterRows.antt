@@ -13,12 +13,14 @@ use Rattle.words.specs.Keys.{Key, bit_of, bit_at, z_at, has_letter}
 use Rattle.words.proofs.BitNumbers.{either_bits}
 use Rattle.terms.specs.Lists.{All, tab, foldl}
 use Rattle.terms.specs.Term.{Term}
-use Rattle.terms.specs.Met.{in_words, letter_among, add_met, met_terms}
+use Rattle.std.specs.Prelude.{Option}
+use Rattle.std.specs.Bool.{then_some}
+use Rattle.terms.specs.Met.{one_or_two, in_words, letter_among, add_met, met_terms}
 use Rattle.terms.proofs.ListLaws.{fold_tab}
 use Rattle.terms.proofs.MetLaws.{one_letter, two_letters, none_met_bare}
 use Rattle.terms.proofs.LetterSteps.{Bare}
 use Rattle.words.specs.Rows.{key_at}
-use Rattle.rows.specs.Rows.{term_at, terms_in, rows_in, met_in, Holds, Stepped, Grown}
+use Rattle.rows.specs.Rows.{targets, term_at, terms_in, rows_in, met_in, Holds, Stepped, Grown}
 use Rattle.rows.proofs.RowLaws.{word_at}
 use Rattle.rows.proofs.HoldLaws.{hold_start}
 use Rattle.rows.proofs.StepLaws.{rows_room, stepped_held, unstepped, grown}
@@ -67,6 +69,11 @@ module _ (w : ℕ) (qs : List ℕ) where
   pub count_turn : (i : ℕ) (ws : List ℕ) (cs : List Float) {v : ℕ} → v ≡ letter_number w qs (key_at (2 * w) ws i)
       → met_terms w qs (terms_in (2 * w) (i + 1) ws cs) ≡ met_terms w qs (terms_in (2 * w) i ws cs) + v
   count_turn i ws cs e = fold_tab (add_met w qs) 0 (term_at (2 * w) ws cs) i ∙ ap (λ (n : ℕ). met_terms w qs (terms_in (2 * w) i ws cs) + n) (sym e)
+
+-- ---- the targets of a step that has two or one
+pub targets_of : (two : Bool) (a b : ℕ) {o : Option ℕ} → o ≡ then_some two b → targets a o ≡ one_or_two two a b
+targets_of true a b e = rw e
+targets_of false a b e = rw e
 
 -- ---- what a step reports
 module _ (w n : ℕ) (qs : List ℕ) (ws : List ℕ) (cs : List Float) where
