@@ -2,11 +2,13 @@
 use mathlib.Core.Path.{◌≡◌, refl, sym, ap, ◌∙◌, subst}
 use mathlib.Core.Bool.{Bool, true, cond, ◌&&◌}
 use mathlib.Core.List.{List}
-use Prim.Native.Nat.{ℕ, suc, ◌+◌, ◌-◌, ◌≤◌, ◌<◌}
+use Prim.Native.Nat.{ℕ, zero, suc, ◌+◌, ◌-◌, ◌≤◌, ◌<◌}
 use native.Mathlib.Omega.{arith}
 use lib.Dec.{eqb}
 use lib.ListN.{get_or}
 use borrow.Author.Tests.{eqb-true, eq-eqb}
+use Rattle.std.specs.Prelude.{Option, Some, None}
+use Rattle.std.specs.Option.{SomeIff}
 use Rattle.terms.specs.Branch.{first}
 use Rattle.terms.proofs.CaseLaws.{and_true}
 use Rattle.branches.specs.Chains.{last, Linked, found_of}
@@ -67,6 +69,12 @@ module _ (n buckets : ℕ) (ix : List ℕ) (p : ℕ → Bool) (b : ℕ) (inside 
       let e : suc (at - 1) ≡ at = omega arith in
       subst (λ (m : ℕ). Walk f p n b (get_or ix (buckets + (at - 1)) 0) (cond (p (at - 1)) m best)) e (goes (at - 1) best (subst (λ (m : ℕ). Walk f p n b m best) (sym e) a))
 
-pub walk_ends : (f : ℕ → ℕ) (p : ℕ → Bool) (n b at best : ℕ) → Walk f p n b at best → at ≡ 0 → found_of best ≡ first (in_bucket f b p) n
+pub walk_ends : (f : ℕ → ℕ) (p : ℕ → Bool) (n b at best : ℕ) {r : Option ℕ} → Walk f p n b at best → at ≡ 0 → SomeIff r (1 ≤ best) (best - 1) → r ≡ first (in_bucket f b p) n
 unfolding first
-walk_ends f p n b at best a e = sym (a.left ∙ ap (λ (m : ℕ). or_found (first (in_bucket f b p) m) (found_of best)) e)
+walk_ends f p n b at best {r} a e h = row best r h ∙ sym (a.left ∙ ap (λ (m : ℕ). or_found (first (in_bucket f b p) m) (found_of best)) e)
+  where
+    row : (m : ℕ) (r : Option ℕ) → SomeIff r (1 ≤ m) (m - 1) → r ≡ found_of m
+    row zero (Some j) h = absurd (let l = h.0 in omega arith)
+    row zero None h = refl
+    row (suc m) (Some j) h = ap Some (let l = h.1 in omega arith)
+    row (suc m) None h = absurd (h (omega arith))
