@@ -1,0 +1,157 @@
+-- One question after another: what refuses a sheet first. Assumes nothing.
+use mathlib.Core.Path.{◌≡◌, refl, sym, ap, ap₂, ◌∙◌}
+use Prim.Native.Nat.{ℕ, suc, ◌+◌, ◌*◌, ◌<◌, ◌≤◌}
+use native.Mathlib.Omega.{arith}
+use mathlib.Core.Bool.{Bool, true, false, cond, ◌&&◌}
+use mathlib.Core.List.{List, [], ◌∷◌}
+use lib.Dec.{leb, eqb}
+use borrow.Author.Tests.{ne_eqb, leb-true}
+use Rattle.terms.proofs.CaseLaws.{and_true}
+use Rattle.ops.specs.declared.Op.{Op}
+use Rattle.lines.specs.TermLines.{TermLine}
+use Rattle.layout.specs.declared.Head.{Head}
+use Rattle.layout.specs.Layout.{term_lines, sheet_ops}
+use Rattle.questions.specs.declared.Asked.{Asked}
+use Rattle.questions.specs.declared.Asked.TheVariants.{Two, Three, Four, FiveAndSix, Eleven}
+use Rattle.questions.specs.Verdict.{Verdict, RefusedAt, Passed}
+use Rattle.questions.specs.Questions.{Question, question2, question_of, first_of, unless, ◌or_else◌, head_line, ops_line, line_of, refused_or, first_fault, by_line}
+use Rattle.questions.specs.Asking.{number, head_verdict, term_verdict, count_verdict, op_verdict, asked_verdict}
+
+-- ---- a step puts a question, and where it passes, the next
+-- v, and where it passes w
+and_then : Verdict → Verdict → Verdict
+and_then (RefusedAt n k) w = RefusedAt n k
+and_then Passed w = w
+
+pub record Step (F : Verdict → Verdict) : Type 0 where
+  pub next : (v : Verdict) → F v ≡ and_then (F Passed) v
+
+pub refused_step : (n line : ℕ) → Step (refused_or n line)
+unfolding and_then
+refused_step n line = record { next = λ v. go (eqb line 0) v }
+  where
+    go : (b : Bool) (v : Verdict) → cond b v (RefusedAt n line) ≡ and_then (cond b Passed (RefusedAt n line)) v
+    go true v = refl
+    go false v = refl
+
+fault_next : {A : Type 0} (f : A → ℕ) (k : ℕ) (l : List A) (v : Verdict) → first_fault f k l v ≡ and_then (first_fault f k l Passed) v
+unfolding first_fault and_then
+fault_next f k [] v = refl
+fault_next f k (a ∷ l) v = go (eqb (f a) 0) (fault_next f (suc k) l v)
+  where
+    go : (b : Bool) → first_fault f (suc k) l v ≡ and_then (first_fault f (suc k) l Passed) v
+        → cond b (first_fault f (suc k) l v) (RefusedAt (f a) k) ≡ and_then (cond b (first_fault f (suc k) l Passed) (RefusedAt (f a) k)) v
+    go true e = e
+    go false e = refl
+
+pub fault_step : {A : Type 0} (f : A → ℕ) (k : ℕ) (l : List A) → Step (first_fault f k l)
+fault_step f k l = record { next = fault_next f k l }
+
+then_then : (x y v : Verdict) → and_then x (and_then y v) ≡ and_then (and_then x y) v
+unfolding and_then
+then_then (RefusedAt n k) y v = refl
+then_then Passed y v = refl
+
+pub step_twice : {F G : Verdict → Verdict} → Step F → Step G → Step (λ v. F (G v))
+step_twice {F} {G} S T = record {
+  next = λ v. S.next (G v) ∙ ap (and_then (F Passed)) (T.next v) ∙ then_then (F Passed) (G Passed) v ∙ ap (λ (x : Verdict). and_then x v) (sym (S.next (G Passed)));
+}
+
+-- it passes
+pub pass_on : {F : Verdict → Verdict} → Step F → Passed ≡ F Passed → (v : Verdict) → v ≡ F v
+unfolding and_then
+pass_on S e v = sym (S.next v ∙ ap (λ (x : Verdict). and_then x v) (sym e))
+
+-- it refuses
+pub stop_here : {F : Verdict → Verdict} → Step F → {n k : ℕ} → RefusedAt n k ≡ F Passed → (v : Verdict) → RefusedAt n k ≡ F v
+unfolding and_then
+stop_here S e v = sym (S.next v ∙ ap (λ (x : Verdict). and_then x v) (sym e))
+
+-- ---- the steps of a question
+pub head_step : (a : Asked) (h : Head) → Step (head_verdict a h)
+head_step a h = refused_step (number a) (head_line (question_of a h))
+
+pub term_step : (a : Asked) (h : Head) (ls : List (List ℕ)) → Step (term_verdict a h ls)
+term_step a h ls = fault_step _ 7 (term_lines h ls)
+
+pub count_step : (a : Asked) (h : Head) → Step (count_verdict a h)
+count_step a h = refused_step (number a) (unless (question_of a h).ops (7 + h.terms))
+
+pub op_step : (a : Asked) (h : Head) (ls : List (List ℕ)) → Step (op_verdict a h ls)
+op_step a h ls = fault_step _ (8 + h.terms) (sheet_ops h ls)
+
+pub asked_step : (a : Asked) (h : Head) (ls : List (List ℕ)) → Step (asked_verdict a h ls)
+asked_step a h ls = step_twice (head_step a h) (step_twice (term_step a h ls) (step_twice (count_step a h) (op_step a h ls)))
+
+-- ---- the steps of a question are the question
+-- one question of some lines after another
+joined : (n a b : ℕ) (v : Verdict) → refused_or n a (refused_or n b v) ≡ refused_or n (a or_else b) v
+joined n a b v = go (eqb a 0) refl
+  where
+    go : (x : Bool) → eqb a 0 ≡ x → cond x (refused_or n b v) (RefusedAt n a) ≡ refused_or n (cond x b a) v
+    go true e = refl
+    go false e = sym (ap (λ (x : Bool). cond x v (RefusedAt n a)) e)
+
+-- a walk at which one question refuses
+walk_is : {A : Type 0} (p : A → Bool) (n k : ℕ) (l : List A) (v : Verdict) → 0 < n → 0 < k
+    → first_fault (λ a. cond (p a) 0 n) k l v ≡ refused_or n (first_of p k l) v
+unfolding first_fault first_of
+walk_is p n k [] v pn pk = refl
+walk_is p n k (a ∷ l) v pn pk = go (p a) (walk_is p n (suc k) l v pn (omega arith))
+  where
+    go : (b : Bool) → first_fault (λ a. cond (p a) 0 n) (suc k) l v ≡ refused_or n (first_of p (suc k) l) v
+        → cond (eqb (cond b 0 n) 0) (first_fault (λ a. cond (p a) 0 n) (suc k) l v) (RefusedAt (cond b 0 n) k) ≡ refused_or n (cond b (first_of p (suc k) l) k) v
+    go true e = e
+    go false e =
+        ap (λ (x : Bool). cond x (first_fault (λ a. cond (p a) 0 n) (suc k) l v) (RefusedAt n k)) (ne_eqb n 0 (λ z. omega arith))
+        ∙ sym (ap (λ (x : Bool). cond x v (RefusedAt n k)) (ne_eqb k 0 (λ z. omega arith)))
+
+asked_is : (n : ℕ) (q : Question) (t : ℕ) (ts : List TermLine) (os : List Op) (v : Verdict) → 0 < n
+    → refused_or n (head_line q) (first_fault (λ l. cond (q.term l) 0 n) 7 ts (refused_or n (unless q.ops (7 + t)) (first_fault (λ o. cond (q.op o) 0 n) (8 + t) os v)))
+    ≡ refused_or n (head_line q or_else first_of q.term 7 ts or_else ops_line q t os) v
+asked_is n q t ts os v h =
+    let e1 = walk_is q.op n (8 + t) os v h (omega arith) in
+    let e2 = joined n (unless q.ops (7 + t)) (first_of q.op (8 + t) os) v in
+    let e3 = walk_is q.term n 7 ts (refused_or n (ops_line q t os) v) h (omega arith) in
+    let e4 = joined n (first_of q.term 7 ts) (ops_line q t os) v in
+    ap (λ (x : Verdict). refused_or n (head_line q) (first_fault (λ l. cond (q.term l) 0 n) 7 ts (refused_or n (unless q.ops (7 + t)) x))) e1
+    ∙ ap (λ (x : Verdict). refused_or n (head_line q) (first_fault (λ l. cond (q.term l) 0 n) 7 ts x)) e2
+    ∙ ap (refused_or n (head_line q)) (e3 ∙ e4)
+    ∙ joined n (head_line q) (first_of q.term 7 ts or_else ops_line q t os) v
+
+module _ (h : Head) (ls : List (List ℕ)) (v : Verdict) where
+  two_is : asked_verdict Two h ls v ≡ refused_or 2 (line_of Two h ls) v
+  two_is = asked_is 2 (question_of Two h) h.terms (term_lines h ls) (sheet_ops h ls) v (omega arith)
+
+  pub three_is : asked_verdict Three h ls v ≡ refused_or 3 (line_of Three h ls) v
+  three_is = asked_is 3 (question_of Three h) h.terms (term_lines h ls) (sheet_ops h ls) v (omega arith)
+
+  pub four_is : asked_verdict Four h ls v ≡ refused_or 4 (line_of Four h ls) v
+  four_is = asked_is 4 (question_of Four h) h.terms (term_lines h ls) (sheet_ops h ls) v (omega arith)
+
+  pub eleven_is : asked_verdict Eleven h ls v ≡ refused_or 11 (line_of Eleven h ls) v
+  eleven_is = asked_is 11 (question_of Eleven h) h.terms (term_lines h ls) (sheet_ops h ls) v (omega arith)
+
+  pub five_and_six_is : asked_verdict FiveAndSix h ls v ≡ by_line h ls v
+  five_and_six_is = refl
+
+-- ---- question 2 asks nothing of a `term` or an `op` line
+none_asked : {A : Type 0} (k : ℕ) (l : List A) (v : Verdict) → first_fault (λ a. 0) k l v ≡ v
+unfolding first_fault
+none_asked k [] v = refl
+none_asked k (a ∷ l) v = none_asked (suc k) l v
+
+pub second_is : (h : Head) (ls : List (List ℕ)) (v : Verdict) → head_verdict Two h (count_verdict Two h v) ≡ refused_or 2 (line_of Two h ls) v
+second_is h ls v =
+    ap (λ (x : Verdict). head_verdict Two h (count_verdict Two h x)) (sym (none_asked (8 + h.terms) (sheet_ops h ls) v))
+    ∙ ap (head_verdict Two h) (sym (none_asked 7 (term_lines h ls) (count_verdict Two h (op_verdict Two h ls v)))) ∙ two_is h ls v
+
+-- where it passes the head, there are at most 1,024 terms
+pub few_terms : (h : Head) → Passed ≡ head_verdict Two h Passed → h.terms ≤ 1024
+few_terms h e = go (question2 h).qubits (question2 h).limit (leb h.terms 1024) (leb h.terms h.limit) refl e
+  where
+    go : (a b c d : Bool) → leb h.terms 1024 ≡ c → Passed ≡ refused_or 2 (unless a 1 or_else unless true 3 or_else unless b 5 or_else unless (c && d) 6) Passed → h.terms ≤ 1024
+    go true true true d l g = leb-true _ _ l
+    go true true false d l g = absurd (cc)
+    go true false c d l g = absurd (cc)
+    go false b c d l g = absurd (cc)

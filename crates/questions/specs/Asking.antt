@@ -1,0 +1,69 @@
+-- Words of the private contracts: how the questions are asked.
+use Rattle.std.specs.Prelude.{◌≡◌, ℕ, ◌+◌, ◌≤◌, cond, List}
+use Rattle.ops.specs.declared.Op.{Op}
+use Rattle.layout.specs.declared.Head.{Head}
+use Rattle.layout.specs.Layout.{question1, term_lines, sheet_ops}
+use Rattle.lines.specs.TermLines.{TermLine}
+use Rattle.questions.specs.declared.Asked.{Asked}
+use Rattle.questions.specs.declared.Asked.TheVariants.{Two, Three, Four, FiveAndSix, Eleven}
+use Rattle.questions.specs.Verdict.{Verdict, Passed}
+use Rattle.questions.specs.Questions.{question_of, unless, head_line, line_of, refused_or, term_fault, op_fault, first_fault, by_line, room_verdict}
+
+-- what questions 3 to 7 may rely on: the sheet passes 1 and 2, and os is its op list
+pub record Sound (h : Head) (ls : List (List ℕ)) (os : List Op) : Type 0 where
+  pub laid : question1 h ls ≡ 0
+  pub qubits : h.qubits ≤ 256
+  pub limit : h.limit ≤ 1048576
+  pub terms : h.terms ≤ 1024
+  pub ops : h.ops ≤ 4096
+  pub table : os ≡ sheet_ops h ls
+
+-- the number of the question that refuses a line of the head, where 5 and 6 ask of none
+abbrev pub number : Asked → ℕ
+number Two = 2
+number Three = 3
+number Four = 4
+number FiveAndSix = 5
+number Eleven = 11
+
+-- the number that refuses a `term` line, 0 for none
+abbrev pub term_number : Asked → Head → TermLine → ℕ
+term_number Two h l = 0
+term_number Three h l = cond ((question_of Three h).term l) 0 3
+term_number Four h l = cond ((question_of Four h).term l) 0 4
+term_number FiveAndSix h l = term_fault h l
+term_number Eleven h l = 0
+
+-- the number that refuses an op, 0 for none
+abbrev pub op_number : Asked → Head → Op → ℕ
+op_number Two h o = 0
+op_number Three h o = cond ((question_of Three h).op o) 0 3
+op_number Four h o = cond ((question_of Four h).op o) 0 4
+op_number FiveAndSix h o = op_fault h o
+op_number Eleven h o = cond ((question_of Eleven h).op o) 0 11
+
+-- a question put to the head, the `term` lines, `ops` and the ops, then v
+abbrev pub head_verdict : Asked → Head → Verdict → Verdict
+head_verdict a h v = refused_or (number a) (head_line (question_of a h)) v
+
+abbrev pub term_verdict : Asked → Head → List (List ℕ) → Verdict → Verdict
+term_verdict a h ls v = first_fault (term_number a h) 7 (term_lines h ls) v
+
+abbrev pub count_verdict : Asked → Head → Verdict → Verdict
+count_verdict a h v = refused_or (number a) (unless (question_of a h).ops (7 + h.terms)) v
+
+abbrev pub op_verdict : Asked → Head → List (List ℕ) → Verdict → Verdict
+op_verdict a h ls v = first_fault (op_number a h) (8 + h.terms) (sheet_ops h ls) v
+
+abbrev pub asked_verdict : Asked → Head → List (List ℕ) → Verdict → Verdict
+asked_verdict a h ls v = head_verdict a h (term_verdict a h ls (count_verdict a h (op_verdict a h ls v)))
+
+-- questions 1 and 2, and then 3 to 7
+abbrev pub early_verdict : Head → List (List ℕ) → Verdict
+early_verdict h ls = refused_or 1 (question1 h ls) (refused_or 2 (line_of Two h ls) Passed)
+
+abbrev pub later_verdict : Head → List (List ℕ) → ℕ → ℕ → Verdict
+later_verdict h ls rows places =
+    refused_or 3 (line_of Three h ls)
+    (refused_or 4 (line_of Four h ls)
+    (refused_or 11 (line_of Eleven h ls) (by_line h ls (room_verdict h rows places))))
