@@ -8,6 +8,7 @@ use lib.Dec.{ltb, leb, eqb}
 use lib.ListN.{length, take, drop, length-drop, length-map}
 use lib.Seq.{length-take-le}
 use borrow.Author.Tests.{ltb-true, ltb-false, leb-true, leb-false, eqb-true, eqb-false, le-leb, lt-leb}
+use Rattle.std.specs.Prelude.{Option, Some, None}
 use Rattle.terms.proofs.CaseLaws.{and_true}
 use Rattle.layout.specs.declared.Head.{Head}
 use Rattle.layout.specs.declared.Kind.{Kind}
@@ -57,22 +58,22 @@ laid_within AnOp l h = refl
 laid_within Beyond l h = absurd (false≢true h)
 
 -- ---- how many lines there are
-not_zero : (k : ℕ) → suc k ≡ 0 → ⊥
-not_zero k h = omega arith
+some_none : {A : Type 0} (k : A) → Some k ≡ None → ⊥
+some_none k h = cc
 
-cond_none : (b : Bool) (r k : ℕ) → cond b r (suc k) ≡ 0 → (b ≡ true) × (r ≡ 0)
+cond_none : {A : Type 0} (b : Bool) (r : Option A) (k : A) → cond b r (Some k) ≡ None → (b ≡ true) × (r ≡ None)
 cond_none true r k h = (refl, h)
-cond_none false r k h = absurd (not_zero k h)
+cond_none false r k h = absurd (some_none k h)
 
-line_count : (t o : ℕ) (ls : List (List ℕ)) (k : ℕ) → suc k ≤ 8 + t + o → bad_line t o ls (suc k) ≡ 0 → length ls + k ≡ 8 + t + o
+line_count : (t o : ℕ) (ls : List (List ℕ)) (k : ℕ) → suc k ≤ 8 + t + o → bad_line t o ls (suc k) ≡ None → length ls + k ≡ 8 + t + o
 unfolding bad_line
-line_count t o [] k b h = absurd (not_zero k h)
+line_count t o [] k b h = absurd (some_none _ h)
 line_count t o (p ∷ []) k b h =
-    let e = and_true (is_beyond (kind t o (suc k))) (eqb (length p) 0) (cond_none (is_beyond (kind t o (suc k)) && eqb (length p) 0) 0 k h).0 in
+    let e = and_true (is_beyond (kind t o (suc k))) (eqb (length p) 0) (cond_none (is_beyond (kind t o (suc k)) && eqb (length p) 0) None (suc k) h).0 in
     let m = leb-true (8 + t + o) (suc k) (sym (beyond_from t o (suc k)) ∙ e.0) in
     omega arith
 line_count t o (p ∷ q ∷ ps) k b h =
-    let e = cond_none (is_laid_out (kind t o (suc k)) p) (bad_line t o (q ∷ ps) (suc (suc k))) k h in
+    let e = cond_none (is_laid_out (kind t o (suc k)) p) (bad_line t o (q ∷ ps) (suc (suc k))) (suc k) h in
     let m = leb-false (8 + t + o) (suc k) (sym (beyond_from t o (suc k)) ∙ laid_within (kind t o (suc k)) p e.0) in
     more_one (length (q ∷ ps)) k (8 + t + o) (line_count t o (q ∷ ps) (suc k) m e.1)
   where
@@ -80,7 +81,7 @@ line_count t o (p ∷ q ∷ ps) k b h =
     more_one a k n h = omega arith
 
 -- "nothing after the last": the part behind the last byte 10 counts here, so there is one more part than lines
-pub laid_length : (h : Head) (ls : List (List ℕ)) → question1 h ls ≡ 0 → length ls ≡ 8 + h.terms + h.ops
+pub laid_length : (h : Head) (ls : List (List ℕ)) → question1 h ls ≡ None → length ls ≡ 8 + h.terms + h.ops
 laid_length h ls e =
     let n : length ls + 0 ≡ 8 + h.terms + h.ops = line_count h.terms h.ops ls 0 (omega arith) e in
     omega arith
@@ -88,12 +89,12 @@ laid_length h ls e =
 part_length : (n m : ℕ) (ls : List (List ℕ)) → m + n ≤ length ls → length (take n (drop m ls)) ≡ n
 part_length n m ls h = length-take-le n (drop m ls) (rw (length-drop m ls) (omega arith))
 
-pub term_lines_length : (h : Head) (ls : List (List ℕ)) → question1 h ls ≡ 0 → length (term_lines h ls) ≡ h.terms
+pub term_lines_length : (h : Head) (ls : List (List ℕ)) → question1 h ls ≡ None → length (term_lines h ls) ≡ h.terms
 term_lines_length h ls e =
     let n = laid_length h ls e in
     length-map (take h.terms (drop 6 ls)) _ ∙ part_length h.terms 6 ls (omega arith)
 
-pub op_list_length : (h : Head) (ls : List (List ℕ)) → question1 h ls ≡ 0 → length (sheet_ops h ls) ≡ h.ops
+pub op_list_length : (h : Head) (ls : List (List ℕ)) → question1 h ls ≡ None → length (sheet_ops h ls) ≡ h.ops
 op_list_length h ls e =
     let n = laid_length h ls e in
     length-map (take h.ops (drop (7 + h.terms) ls)) _ ∙ part_length h.ops (7 + h.terms) ls (omega arith)

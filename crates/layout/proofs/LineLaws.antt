@@ -1,57 +1,79 @@
--- Laws of a loop over the lines of a sheet: r is what is left of the text, k the number of its first line, A the number of the first bad
--- line from there on. Assumes nothing.
-use Prim.Native.Nat.{ℕ, ◌+◌, ◌<◌, ◌≤◌}
-use mathlib.Core.Path.{◌≡◌, sym, ap, ap₂, ◌∙◌}
+-- Laws of a pass over the parts of a sheet: ps are the parts, and i of them are right. Assumes nothing.
+use Prim.Native.Nat.{ℕ, zero, suc, ◌+◌, ◌<◌, ◌≤◌}
+use mathlib.Core.Path.{◌≡◌, refl, sym, ap, ◌∙◌}
 use mathlib.Core.Bool.{Bool, true, false, cond}
 use mathlib.Core.List.{List, [], ◌∷◌}
 use native.Mathlib.Numerals.{add-one}
 use native.Mathlib.Omega.{arith}
-use lib.ListN.{length, take, drop, length-drop}
-use Rattle.text.specs.Bytes.{parts, index, newline}
-use Rattle.text.proofs.PartLaws.{parts_found, parts_last, parts_some}
+use borrow.Author.Tests.{lt-ltb, le-ltb, ne_eqb}
+use lib.Dec.{ltb, eqb, eqb-suc-suc}
+use lib.ListN.{length, get_or, drop}
+use Rattle.std.specs.Prelude.{Option, Some, None}
+use Rattle.std.specs.List.{enumerate_from}
+use Rattle.std.proofs.lemmas.Bool.Decides.{nat_tests}
 use Rattle.layout.specs.declared.Kind.{Kind}
 use Rattle.layout.specs.Layout.{kind, is_laid_out, is_end, bad_line}
 
--- what is left after a line and its byte 10 is shorter
-pub left_less : (r x : List ℕ) (n : ℕ) → n < length r → x ≡ drop (n + 1) r → length x < length r
-left_less r x n h e = omega (arith, h, ap length e, length-drop (n + 1) r)
+-- the part that a pass comes to
+pub part_at : (ps : List (List ℕ)) (n j i : ℕ) (p : List ℕ) → (j < length (enumerate_from n ps)) × ((i, p) ≡ get_or (enumerate_from n ps) j (i, p))
+    → (i ≡ n + j) × (j < length ps) × (p ≡ get_or ps j p)
+part_at [] n j i p h = absurd (omega (arith, h.0))
+part_at (q ∷ ps) n zero i p h = (ap (λ (e : ℕ × List ℕ). e.0) h.1 ∙ omega arith, omega arith, ap (λ (e : ℕ × List ℕ). e.1) h.1)
+part_at (q ∷ ps) n (suc j) i p h =
+    let r = part_at ps (n + 1) j i p (omega (arith, h.0), h.1) in
+    (r.0 ∙ omega arith, omega (arith, r.1), r.2)
 
--- n is where the first byte 10 of r stands, d what its first line should be
-module _ (t o k A : ℕ) (r : List ℕ) (inv : bad_line t o (parts newline r) k ≡ A) (d : Kind) (f : d ≡ kind t o k) (n : ℕ) (e : n ≡ index newline r) where
-  -- no byte 10 is left
-  module _ (h : length r ≤ n) (b : Bool) (q : b ≡ is_end d r) where
-    at_end : cond b 0 k ≡ A
-    unfolding bad_line
-    at_end =
-        ap (λ (x : Bool). cond x 0 k) (q ∙ ap (λ (c : Kind). is_end c r) f)
-        ∙ ap (λ (ps : List (List ℕ)). bad_line t o ps k) (sym (parts_last newline r n e h)) ∙ inv
+pub parts_counted : (n : ℕ) (ps : List (List ℕ)) → length (enumerate_from n ps) ≡ length ps
+parts_counted n [] = refl
+parts_counted n (p ∷ ps) = ap suc (parts_counted (n + 1) ps)
 
-    pub none_bad : b ≡ true → 0 ≡ A
-    none_bad x = ap (λ (y : Bool). cond y 0 k) (sym x) ∙ at_end
+-- what is wrong in the parts from i on
+abbrev pub left : ℕ → ℕ → List (List ℕ) → ℕ → Option ℕ
+left t o ps i = cond (ltb i (length ps)) (bad_line t o (drop i ps) (i + 1)) None
 
-    pub end_bad : b ≡ false → k ≡ A
-    end_bad x = ap (λ (y : Bool). cond y 0 k) (sym x) ∙ at_end
+module _ (t o : ℕ) (ps : List (List ℕ)) where
+  pub left_all : 0 < length ps → left t o ps 0 ≡ bad_line t o ps 1
+  left_all h = rw (lt-ltb 0 (length ps) h)
 
-  -- p is the line before the byte 10
-  module _ (h : n < length r) (p : List ℕ) (u : p ≡ take n r) (b : Bool) (q : b ≡ is_laid_out d p) where
-    at_line : cond b (bad_line t o (parts newline (drop (n + 1) r)) (k + 1)) k ≡ A
-    unfolding bad_line
-    at_line =
-        ap (λ (x : Bool). cond x (bad_line t o rest (k + 1)) k) (q ∙ ap₂ is_laid_out f u)
-        ∙ more rest (parts_some newline (drop (n + 1) r))
-        ∙ ap (λ (ps : List (List ℕ)). bad_line t o ps k) (sym (parts_found newline r n e h)) ∙ inv
-      where
-        rest : List (List ℕ)
-        rest = parts newline (drop (n + 1) r)
+  pub left_none : (i : ℕ) → length ps ≤ i → left t o ps i ≡ None
+  left_none i h = rw (le-ltb i (length ps) h)
 
-        more : (ps : List (List ℕ)) → 0 < length ps → cond (is_laid_out (kind t o k) (take n r)) (bad_line t o ps (k + 1)) k ≡ bad_line t o (take n r ∷ ps) k
-        more [] l = absurd (omega (arith, l))
-        more (l ∷ ps) z = ap (λ (i : ℕ). cond (is_laid_out (kind t o k) (take n r)) (bad_line t o (l ∷ ps) i) k) (add-one k)
+-- one part more, which is the last where i + 1 is the count
+step : (t o : ℕ) (ps : List (List ℕ)) (i k : ℕ) (p : List ℕ) → i < length ps → p ≡ get_or ps i p
+    → bad_line t o (drop i ps) k ≡ cond (cond (eqb (i + 1) (length ps)) (is_end (kind t o k) p) (is_laid_out (kind t o k) p)) (cond (ltb (i + 1) (length ps)) (bad_line t o (drop (i + 1) ps) (k + 1)) None) (Some k)
+unfolding bad_line
+step t o [] i k p h e = absurd (omega (arith, h))
+step t o (q ∷ []) zero k p h e = rw e
+step t o (q ∷ r ∷ ps) zero k p h e = rw (e, ne_eqb 1 (suc (suc (length ps))) (λ z. omega arith), lt-ltb 1 (suc (suc (length ps))) (omega arith), add-one k)
+step t o (q ∷ ps) (suc i) k p h e =
+    step t o ps i k p (omega (arith, h)) e
+    ∙ rw (suc_out i, eqb-suc-suc (i + 1) (length ps), ltb_suc (i + 1) (length ps))
+  where
+    suc_out : (i : ℕ) → suc i + 1 ≡ suc (i + 1)
+    suc_out i = omega arith
 
-    pub line_bad : b ≡ false → k ≡ A
-    line_bad x = ap (λ (y : Bool). cond y (bad_line t o (parts newline (drop (n + 1) r)) (k + 1)) k) (sym x) ∙ at_line
+    ltb_suc : (a b : ℕ) → ltb (suc a) (suc b) ≡ ltb a b
+    ltb_suc a b = grind (arith, nat_tests)
 
-    pub later_bad : b ≡ true → (x : List ℕ) → x ≡ drop (n + 1) r → bad_line t o (parts newline x) (k + 1) ≡ A
-    later_bad x l g =
-        ap (λ (y : List ℕ). bad_line t o (parts newline y) (k + 1)) g
-        ∙ ap (λ (y : Bool). cond y (bad_line t o (parts newline (drop (n + 1) r)) (k + 1)) k) (sym x) ∙ at_line
+pub left_next : (t o : ℕ) (ps : List (List ℕ)) (i : ℕ) (p : List ℕ) (b : Bool) → i < length ps → p ≡ get_or ps i p
+    → b ≡ cond (eqb (i + 1) (length ps)) (is_end (kind t o (i + 1)) p) (is_laid_out (kind t o (i + 1)) p)
+    → left t o ps i ≡ cond b (left t o ps (i + 1)) (Some (i + 1))
+left_next t o ps i p b h e f = rw (lt-ltb i (length ps) h, f) (step t o ps i (i + 1) p h e)
+
+-- one turn of the pass: qs are the parts as `split` gives them, n their count, d the kind of the part p, and b whether it is right
+module _ (t o : ℕ) (ps qs : List (List ℕ)) (e : qs ≡ ps) (j i : ℕ) (p : List ℕ) (h : (j < length (enumerate_from 0 qs)) × ((i, p) ≡ get_or (enumerate_from 0 qs) j (i, p)))
+    (n : ℕ) (f : n ≡ length qs) (d : Kind) (g : d ≡ kind t o (i + 1)) (b : Bool) (k : b ≡ cond (eqb (i + 1) n) (is_end d p) (is_laid_out d p))
+    (A : Option ℕ) (inv : left t o ps j ≡ A) where
+  turned : cond b (left t o ps (j + 1)) (Some (i + 1)) ≡ A
+  turned =
+      let r = part_at qs 0 j i p h in
+      let s : i ≡ j = r.0 ∙ omega arith in
+      let l : j < length ps = rw e at r.1 in
+      let u : p ≡ get_or ps j p = rw e at r.2 in
+      rw s (sym (left_next t o ps j p b l u (rw (g, f, e, s) at k)) ∙ inv)
+
+  pub part_bad : b ≡ false → Some (i + 1) ≡ A
+  part_bad q = rw q at turned
+
+  pub part_good : b ≡ true → left t o ps (j + 1) ≡ A
+  part_good q = rw q at turned

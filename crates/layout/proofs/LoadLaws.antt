@@ -27,6 +27,7 @@ use Rattle.lines.specs.TermLines.{weight_on, factors_on, line_on, placed, word_l
 use Rattle.lines.proofs.WordLaws.{length_all}
 use Rattle.layout.specs.declared.Head.{Head}
 use Rattle.layout.specs.Cursor.{line_at, next_at, start_at}
+use Rattle.std.specs.Prelude.{None}
 use Rattle.layout.specs.Layout.{question1, term_lines, sheet_ops}
 use Rattle.layout.specs.Loaded.{op_line, with_ops, row_with, keys_with, weights_with, holds_lines, LinesLoaded}
 use Rattle.layout.proofs.CursorLaws.{line_there, start_add, start_next}
@@ -230,7 +231,7 @@ module _ (w : ℕ) (h : Head) (ls : List (List ℕ)) (K : List ℕ) (W : List Fl
 
 -- ---- laws for the callers
 -- if a list has places for all ops, and the sheet is laid out, then its op list is read from it
-pub ops_loaded : (h : Head) (ls : List (List ℕ)) (os : List Op) → h.ops ≤ length os → question1 h ls ≡ 0 → take h.ops (with_ops h ls os) ≡ sheet_ops h ls
+pub ops_loaded : (h : Head) (ls : List (List ℕ)) (os : List Op) → h.ops ≤ length os → question1 h ls ≡ None → take h.ops (with_ops h ls os) ≡ sheet_ops h ls
 ops_loaded h ls os room laid =
     let all : min h.ops (length os) ≡ h.ops = omega (arith, room) in
     ap (λ (n : ℕ). take h.ops (tab n (op_line h ls) ++ drop n os)) all
@@ -257,7 +258,7 @@ module _ (w : ℕ) (h : Head) (ls : List (List ℕ)) (K K' : List ℕ) (W W' : L
       go false e = refl
 
   -- if both buffers hold all `term` lines, the words were zero and the sheet is laid out, then the table has the `term` lines of the sheet
-  pub lines_loaded : h.terms * (2 * w) ≤ length K → h.terms ≤ length W → K ≡ replicate (length K) 0 → question1 h ls ≡ 0
+  pub lines_loaded : h.terms * (2 * w) ≤ length K → h.terms ≤ length W → K ≡ replicate (length K) 0 → question1 h ls ≡ None
       → tab h.terms (table.table_line w K' W') ≡ map (word_line w) (term_lines h ls)
   unfolding line_on zeros keys_with weights_with
   lines_loaded room has clear laid =

@@ -1,11 +1,11 @@
 -- Question 1: "Is the sheet laid out as above?", and the values of a sheet's lines.
-use Rattle.std.specs.Prelude.{ℕ, suc, ◌+◌, ◌-◌, Bool, true, false, cond, ◌&&◌, List, [], ◌∷◌, map, ltb, eqb, length, take, drop, get_or}
+use Rattle.std.specs.Prelude.{ℕ, suc, ◌+◌, ◌-◌, Bool, true, false, cond, ◌&&◌, List, [], ◌∷◌, map, ltb, eqb, length, take, drop, get_or, Option, Some, None, is_some}
 use Rattle.text.specs.Bytes.{bytes}
 use Rattle.ops.specs.declared.Op.{Op}
 use Rattle.layout.specs.declared.Head.{Head}
 use Rattle.layout.specs.declared.Kind.{Kind}
 use Rattle.layout.specs.declared.Kind.TheVariants.{AQubits, ARun, AnEpsilon, AMaxTerms, ALimit, ATerms, ATerm, AnOps, AnOp, Beyond}
-use Rattle.lines.specs.Fields.{count, real_field, run_field, is_number, is_real, is_run, or_zero, or_zero_real, or_full}
+use Rattle.lines.specs.Fields.{count, real_field, run_field, or_zero, or_zero_real, or_full}
 use Rattle.lines.specs.TermLines.{TermLine, is_term_line, line_on}
 use Rattle.lines.specs.OpLines.{is_op_line, op_on}
 
@@ -26,14 +26,14 @@ kind t o k = cond (ltb k 7) (head_kind k) (later_kind t o (k - 7))
 
 -- whether a line is what its kind asks
 unfoldable pub is_laid_out : Kind → List ℕ → Bool
-is_laid_out AQubits l = is_number (count (bytes "qubits=") l)
-is_laid_out ARun l = is_run (run_field l)
-is_laid_out AnEpsilon l = is_real (real_field (bytes "epsilon=") l)
-is_laid_out AMaxTerms l = is_number (count (bytes "max_terms=") l)
-is_laid_out ALimit l = is_number (count (bytes "limit=") l)
-is_laid_out ATerms l = is_number (count (bytes "terms=") l)
+is_laid_out AQubits l = is_some (count (bytes "qubits=") l)
+is_laid_out ARun l = is_some (run_field l)
+is_laid_out AnEpsilon l = is_some (real_field (bytes "epsilon=") l)
+is_laid_out AMaxTerms l = is_some (count (bytes "max_terms=") l)
+is_laid_out ALimit l = is_some (count (bytes "limit=") l)
+is_laid_out ATerms l = is_some (count (bytes "terms=") l)
 is_laid_out ATerm l = is_term_line l
-is_laid_out AnOps l = is_number (count (bytes "ops=") l)
+is_laid_out AnOps l = is_some (count (bytes "ops=") l)
 is_laid_out AnOp l = is_op_line l
 is_laid_out Beyond l = false
 
@@ -53,11 +53,11 @@ is_beyond Beyond = true
 abbrev pub is_end : Kind → List ℕ → Bool
 is_end c p = is_beyond c && eqb (length p) 0
 
--- the first line, from line k on, that is not what it should be; 0 if there is none. "a missing line counts as the line it should be"
-unfoldable pub bad_line : ℕ → ℕ → List (List ℕ) → ℕ → ℕ
-bad_line t o [] k = k
-bad_line t o (p ∷ []) k = cond (is_end (kind t o k) p) 0 k
-bad_line t o (p ∷ q ∷ ps) k = let r = bad_line t o (q ∷ ps) (suc k) in cond (is_laid_out (kind t o k) p) r k
+-- the first line, from line k on, that is not what it should be. "a missing line counts as the line it should be"
+unfoldable pub bad_line : ℕ → ℕ → List (List ℕ) → ℕ → Option ℕ
+bad_line t o [] k = Some k
+bad_line t o (p ∷ []) k = cond (is_end (kind t o k) p) None (Some k)
+bad_line t o (p ∷ q ∷ ps) k = let r = bad_line t o (q ∷ ps) (suc k) in cond (is_laid_out (kind t o k) p) r (Some k)
 
 -- ---- the values of a sheet's lines
 unfoldable pub head_of : List (List ℕ) → Head
@@ -74,7 +74,7 @@ head_of ls =
     }
 
 -- question 1
-abbrev pub question1 : Head → List (List ℕ) → ℕ
+abbrev pub question1 : Head → List (List ℕ) → Option ℕ
 question1 h ls = bad_line h.terms h.ops ls 1
 
 -- the `term` lines and the op list

@@ -8,7 +8,7 @@ use text::parts::{find, part_before, part_from};
 pub fn line_at(s: &[u8], at: usize) -> &[u8]
     ensures { result.now ≡ line_at s.now at }
 {
-    part_before(part_from(s, at), 10)
+    part_before(part_from(s, at), b'\n')
 }
 
 // The place where the next line starts, or the end.
@@ -16,11 +16,8 @@ pub fn next_at(s: &[u8], at: usize) -> usize
     ensures { result ≡ next_at s.now at }
 {
     let rest = part_from(s, at);
-    let m = find(rest, 10);
-    if m < rest.len() {
-        return at + m + 1;
-    }
-    s.len()
+    let m = find(rest, b'\n');
+    if m < rest.len() { at + m + 1 } else { s.len() }
 }
 
 // The place n lines further, or the end: from there on all lines are empty.
@@ -28,13 +25,11 @@ pub fn start_at(s: &[u8], at: usize, n: usize) -> usize
     ensures { result ≡ start_at s.now at n }
 {
     let mut place = at;
-    let mut i = 0;
-    while i < n {
+    for _ in 0..n {
         if s.len() == place {
             return place;
         }
         place = next_at(s, place);
-        i += 1;
     }
     place
 }

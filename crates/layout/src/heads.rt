@@ -7,28 +7,28 @@ ghost use Rattle.layout.specs.Layout.{head_of};
 
 use crate::Head;
 use crate::cursor::{line_at, next_at, start_at};
-use lines::fields::{or_full, or_zero, or_zero_real, read_count, read_real_field, read_run};
+use lines::fields::{read_count, read_real_field, read_run};
 use ops::Run;
 
 // The count on the line that starts at a place, or 0.
 fn count_on(s: &[u8], at: usize, key: &[u8]) -> usize
     ensures { result ≡ or_zero (count key.now (line_at s.now at)) }
 {
-    or_zero(read_count(line_at(s, at), key))
+    read_count(line_at(s, at), key).unwrap_or(0)
 }
 
 // The epsilon on the line that starts at a place, or 0.
 fn epsilon_on(s: &[u8], at: usize) -> f64
     ensures { result ≡ or_zero_real (real_field (bytes "epsilon=") (line_at s.now at)) }
 {
-    or_zero_real(read_real_field(line_at(s, at), b"epsilon="))
+    read_real_field(line_at(s, at), b"epsilon=").unwrap_or(0.0)
 }
 
 // The run on the line that starts at a place, or `full`.
 fn run_on(s: &[u8], at: usize) -> Run
     ensures { result ≡ or_full (run_field (line_at s.now at)) }
 {
-    or_full(read_run(line_at(s, at)))
+    read_run(line_at(s, at)).unwrap_or(Run::Full)
 }
 
 // The values of a sheet's lines `qubits` to `terms`, and `ops`. However large the count of terms is, the line `ops` is looked for in

@@ -1,63 +1,54 @@
 // Question 1: the first line that is not laid out as it should be.
-ghost use Rattle.std.specs.Prelude.{◌≡◌};
+ghost use Rattle.std.specs.Prelude.{◌≡◌, cond};
 ghost use Rattle.text.specs.Bytes.{parts, newline};
 ghost use Rattle.layout.specs.Layout.{is_laid_out, is_end, bad_line};
 
 use crate::Kind;
-use crate::kinds::{is_beyond, line_kind};
-use lines::fields::{is_number, is_real, is_run, read_count, read_real_field, read_run};
+use crate::kinds::line_kind;
+use lines::fields::{read_count, read_real_field, read_run};
 use lines::oplines::is_op_line;
 use lines::termlines::is_term_line;
-use text::parts::{find, part_from, part_to};
 
 // Whether a line is what its kind asks.
 fn is_laid_out(c: Kind, l: &[u8]) -> bool
     ensures { result ≡ is_laid_out c l.now }
 {
     match c {
-        Kind::AQubits => is_number(read_count(l, b"qubits=")),
-        Kind::ARun => is_run(read_run(l)),
-        Kind::AnEpsilon => is_real(read_real_field(l, b"epsilon=")),
-        Kind::AMaxTerms => is_number(read_count(l, b"max_terms=")),
-        Kind::ALimit => is_number(read_count(l, b"limit=")),
-        Kind::ATerms => is_number(read_count(l, b"terms=")),
+        Kind::AQubits => read_count(l, b"qubits=").is_some(),
+        Kind::ARun => read_run(l).is_some(),
+        Kind::AnEpsilon => read_real_field(l, b"epsilon=").is_some(),
+        Kind::AMaxTerms => read_count(l, b"max_terms=").is_some(),
+        Kind::ALimit => read_count(l, b"limit=").is_some(),
+        Kind::ATerms => read_count(l, b"terms=").is_some(),
         Kind::ATerm => is_term_line(l),
-        Kind::AnOps => is_number(read_count(l, b"ops=")),
+        Kind::AnOps => read_count(l, b"ops=").is_some(),
         Kind::AnOp => is_op_line(l),
         Kind::Beyond => false,
     }
 }
 
-// Whether a sheet may end with l, the text after its last byte 10: no line is missing there, and nothing stands there.
-fn is_end(c: Kind, l: &[u8]) -> bool
-    ensures { result ≡ is_end c l.now }
+// Whether a part is as it should be: a line, or the text after the last byte 10. A sheet may end there if no line is missing and nothing
+// stands there.
+fn is_right(c: Kind, l: &[u8], last: bool) -> bool
+    ensures { result ≡ cond last (is_end c l.now) (is_laid_out c l.now) }
 {
-    if is_beyond(c) {
-        return l.len() == 0;
+    if last {
+        c == Kind::Beyond && l.is_empty()
+    } else {
+        is_laid_out(c, l)
     }
-    false
 }
 
-// The number of the first line that is not what it should be, counted from 1, or 0 if there is none. A line that is missing counts.
-pub fn first_bad_line(s: &[u8], terms: usize, ops: usize) -> usize
+// The number of the first line that is not what it should be, counted from 1. A line that is missing counts.
+pub fn first_bad_line(s: &[u8], terms: usize, ops: usize) -> Option<usize>
     ensures { result ≡ bad_line terms ops (parts newline s.now) 1 }
 {
-    let mut rest = s;
-    let mut k = 1;
-    loop {
-        let c = line_kind(terms, ops, k);
-        let n = find(rest, 10);
-        if rest.len() <= n {
-            if is_end(c, rest) {
-                return 0;
-            }
-            return k;
+    let count = s.split(|b| *b == b'\n').count();
+    for (i, l) in s.split(|b| *b == b'\n').enumerate() {
+        let k = i + 1;
+        if !is_right(line_kind(terms, ops, k), l, k == count) {
+            return Some(k);
         }
-        if !is_laid_out(c, part_to(rest, n)) {
-            return k;
-        }
-        let next = part_from(rest, n + 1);
-        rest = next;
-        k += 1;
     }
+    None
 }

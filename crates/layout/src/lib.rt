@@ -16,7 +16,7 @@ pub struct Head {
 }
 
 // What a line of a sheet should be.
-#[derive(Clone, Copy)]
+#[derive(Clone, Copy, PartialEq)]
 pub enum Kind {
     AQubits,
     ARun,

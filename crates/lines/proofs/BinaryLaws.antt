@@ -3,25 +3,17 @@ use Prim.Native.Nat.{ℕ}
 use mathlib.Core.List.{List}
 use lib.Dec.{eqb}
 use lib.ListN.{length, drop}
-use lib.Ieee.{binary64}
+use lib.Ieee.{binary64, of_bits}
 use lib.Ieee.Bits.{of_bits-fits}
+use Rattle.std.specs.Prelude.{Option, Some, None, Float, option_map, option_and_then}
 use Rattle.numbers.specs.Constants.{zero64}
 use Rattle.terms.proofs.CaseLaws.{cond_holds}
-use Rattle.text.specs.declared.Read.{Read}
-use Rattle.text.specs.declared.Read.TheVariants.{Number, Bad}
-use Rattle.text.specs.declared.Real.{Real}
-use Rattle.text.specs.declared.Real.TheVariants.{Value, NotReal}
 use Rattle.text.specs.Bytes.{bytes, before, after, comma, colon, begins, same}
-use Rattle.text.specs.Numerals.{hex16, real_of, real}
+use Rattle.text.specs.Numerals.{hex16, real}
 use Rattle.ops.specs.Binary.{IsBinary64, RealsAreBinary64}
 use Rattle.lines.specs.declared.Name.{Name}
-use Rattle.lines.specs.declared.Name.TheVariants.{OneTarget, TwoTargets, T, Tdg, Rz, P, Rzz, Pauli, Depol, Damp, Phase, Thermal, Depol2, NoName}
-use Rattle.lines.specs.declared.OpRead.{OpRead}
-use Rattle.lines.specs.declared.OpRead.TheVariants.{IsOp, NotOp}
-use Rattle.lines.specs.declared.oplines.Targets.{Targets}
-use Rattle.lines.specs.declared.oplines.Targets.TheVariants.{Pair, NotTargets}
-use Rattle.lines.specs.declared.oplines.Reals.{Reals}
-use Rattle.lines.specs.declared.oplines.Reals.TheVariants.{Triple, NotReals}
+use Rattle.lines.specs.declared.Name.TheVariants.{OneTarget, TwoTargets, T, Tdg, Rz, P, Rzz, Pauli, Depol, Damp, Phase, Thermal, Depol2}
+use Rattle.ops.specs.declared.Op.{Op}
 use Rattle.lines.specs.Fields.{real_field, or_zero_real}
 use Rattle.lines.specs.TermLines.{line_on}
 use Rattle.lines.specs.OpLines.{name_of, has_two, real_count, targets_in, triple_of, reals_in, op_with, op_after, op, or_none, op_on}
@@ -30,34 +22,34 @@ zero_is : IsBinary64 zero64
 zero_is = of_bits-fits binary64 0
 
 -- ---- a real that was read
-abbrev RealIs : Real → Type 0
-RealIs (Value x) = IsBinary64 x
-RealIs NotReal = Unit {0}
+abbrev RealIs : Option Float → Type 0
+RealIs (Some x) = IsBinary64 x
+RealIs None = Unit {0}
 
 real_is : (s : List ℕ) → RealIs (real s)
 real_is s = go (hex16 s)
   where
-    go : (r : Read) → RealIs (real_of r)
-    go Bad = tt
-    go (Number v) = of_bits-fits binary64 v
+    go : (r : Option ℕ) → RealIs (option_map (of_bits binary64) r)
+    go None = tt
+    go (Some v) = of_bits-fits binary64 v
 
-or_zero_is : (r : Real) → RealIs r → IsBinary64 (or_zero_real r)
-or_zero_is (Value x) h = h
-or_zero_is NotReal h = zero_is
+or_zero_is : (r : Option Float) → RealIs r → IsBinary64 (or_zero_real r)
+or_zero_is (Some x) h = h
+or_zero_is None h = zero_is
 
 pub field_is : (k l : List ℕ) → IsBinary64 (or_zero_real (real_field k l))
 field_is k l = cond_holds (λ r. IsBinary64 (or_zero_real r)) (begins k l) (or_zero_is (real (drop (length k) l)) (real_is (drop (length k) l))) zero_is
 
 -- ---- the reals of an op that was read
-abbrev RealsAre : Reals → Type 0
-RealsAre (Triple x y z) = IsBinary64 x × (IsBinary64 y × IsBinary64 z)
-RealsAre NotReals = Unit {0}
+abbrev RealsAre : Option (Float × Float × Float) → Type 0
+RealsAre (Some (x, y, z)) = IsBinary64 x × (IsBinary64 y × IsBinary64 z)
+RealsAre None = Unit {0}
 
-triple_are : (x y z : Real) → RealIs x → RealIs y → RealIs z → RealsAre (triple_of x y z)
-triple_are NotReal y z h k m = tt
-triple_are (Value x) NotReal z h k m = tt
-triple_are (Value x) (Value y) NotReal h k m = tt
-triple_are (Value x) (Value y) (Value z) h k m = (h, (k, m))
+triple_are : (x y z : Option Float) → RealIs x → RealIs y → RealIs z → RealsAre (triple_of x y z)
+triple_are None y z h k m = tt
+triple_are (Some x) None z h k m = tt
+triple_are (Some x) (Some y) None h k m = tt
+triple_are (Some x) (Some y) (Some z) h k m = (h, (k, m))
 
 reals_are : (n : ℕ) (r : List ℕ) → RealsAre (reals_in n r)
 unfolding reals_in
@@ -65,45 +57,48 @@ reals_are n r =
     let a = before comma r in
     let b = after comma r in
     cond_holds RealsAre (eqb n 0) (zero_is, (zero_is, zero_is))
-    (cond_holds RealsAre (eqb n 1) (triple_are (real r) (Value zero64) (Value zero64) (real_is r) zero_is zero_is)
-    (cond_holds RealsAre (eqb n 2) (triple_are (real a) (real b) (Value zero64) (real_is a) (real_is b) zero_is)
+    (cond_holds RealsAre (eqb n 1) (triple_are (real r) (Some zero64) (Some zero64) (real_is r) zero_is zero_is)
+    (cond_holds RealsAre (eqb n 2) (triple_are (real a) (real b) (Some zero64) (real_is a) (real_is b) zero_is)
     (triple_are (real a) (real (before comma b)) (real (after comma b)) (real_is a) (real_is (before comma b)) (real_is (after comma b)))))
 
-abbrev OpIs : OpRead → Type 0
-OpIs (IsOp o) = RealsAreBinary64 o
-OpIs NotOp = Unit {0}
+abbrev OpIs : Option Op → Type 0
+OpIs (Some o) = RealsAreBinary64 o
+OpIs None = Unit {0}
 
-op_with_is : (n : Name) (t : Targets) (r : Reals) → RealsAre r → OpIs (op_with n t r)
-op_with_is n NotTargets r h = tt
-op_with_is n (Pair a b) NotReals h = tt
-op_with_is (OneTarget g) (Pair a b) (Triple x y z) h = tt
-op_with_is (TwoTargets g) (Pair a b) (Triple x y z) h = tt
-op_with_is T (Pair a b) (Triple x y z) h = tt
-op_with_is Tdg (Pair a b) (Triple x y z) h = tt
-op_with_is Rz (Pair a b) (Triple x y z) h = (h.0, (h.1.0, tt))
-op_with_is P (Pair a b) (Triple x y z) h = (h.0, (h.1.0, tt))
-op_with_is Rzz (Pair a b) (Triple x y z) h = (h.0, (h.1.0, tt))
-op_with_is Pauli (Pair a b) (Triple x y z) h = (h.0, (h.1.0, (h.1.1, tt)))
-op_with_is Depol (Pair a b) (Triple x y z) h = (h.0, tt)
-op_with_is Damp (Pair a b) (Triple x y z) h = (h.0, tt)
-op_with_is Phase (Pair a b) (Triple x y z) h = (h.0, tt)
-op_with_is Thermal (Pair a b) (Triple x y z) h = (h.0, (h.1.0, (h.1.1, tt)))
-op_with_is Depol2 (Pair a b) (Triple x y z) h = (h.0, tt)
-op_with_is NoName (Pair a b) (Triple x y z) h = tt
+op_with_is : (n : Name) (t : Option (ℕ × ℕ)) (r : Option (Float × Float × Float)) → RealsAre r → OpIs (op_with n t r)
+op_with_is n None r h = tt
+op_with_is n (Some (a, b)) None h = tt
+op_with_is (OneTarget g) (Some (a, b)) (Some (x, y, z)) h = tt
+op_with_is (TwoTargets g) (Some (a, b)) (Some (x, y, z)) h = tt
+op_with_is T (Some (a, b)) (Some (x, y, z)) h = tt
+op_with_is Tdg (Some (a, b)) (Some (x, y, z)) h = tt
+op_with_is Rz (Some (a, b)) (Some (x, y, z)) h = (h.0, (h.1.0, tt))
+op_with_is P (Some (a, b)) (Some (x, y, z)) h = (h.0, (h.1.0, tt))
+op_with_is Rzz (Some (a, b)) (Some (x, y, z)) h = (h.0, (h.1.0, tt))
+op_with_is Pauli (Some (a, b)) (Some (x, y, z)) h = (h.0, (h.1.0, (h.1.1, tt)))
+op_with_is Depol (Some (a, b)) (Some (x, y, z)) h = (h.0, tt)
+op_with_is Damp (Some (a, b)) (Some (x, y, z)) h = (h.0, tt)
+op_with_is Phase (Some (a, b)) (Some (x, y, z)) h = (h.0, tt)
+op_with_is Thermal (Some (a, b)) (Some (x, y, z)) h = (h.0, (h.1.0, (h.1.1, tt)))
+op_with_is Depol2 (Some (a, b)) (Some (x, y, z)) h = (h.0, tt)
 
 op_after_is : (n : Name) (v : List ℕ) → OpIs (op_after n v)
 unfolding op_after
 op_after_is n v =
-    cond_holds OpIs (eqb (real_count n) 0) (op_with_is n (targets_in (has_two n) v) (Triple zero64 zero64 zero64) (zero_is, (zero_is, zero_is)))
+    cond_holds OpIs (eqb (real_count n) 0) (op_with_is n (targets_in (has_two n) v) (Some (zero64, zero64, zero64)) (zero_is, (zero_is, zero_is)))
     (op_with_is n (targets_in (has_two n) (before colon v)) (reals_in (real_count n) (after colon v)) (reals_are (real_count n) (after colon v)))
 
 op_is : (v : List ℕ) → OpIs (op v)
 unfolding op
-op_is v = cond_holds OpIs (same (bytes "barrier:") v) tt (op_after_is (name_of (before colon v)) (after colon v))
+op_is v = cond_holds OpIs (same (bytes "barrier:") v) tt (named (name_of (before colon v)))
+  where
+    named : (n : Option Name) → OpIs (option_and_then (λ n. op_after n (after colon v)) n)
+    named None = tt
+    named (Some n) = op_after_is n (after colon v)
 
-or_none_is : (r : OpRead) → OpIs r → RealsAreBinary64 (or_none r)
-or_none_is (IsOp o) h = h
-or_none_is NotOp h = tt
+or_none_is : (r : Option Op) → OpIs r → RealsAreBinary64 (or_none r)
+or_none_is (Some o) h = h
+or_none_is None h = tt
 
 -- ---- the reals on a line
 pub op_line_is : (l : List ℕ) → RealsAreBinary64 (op_on l)

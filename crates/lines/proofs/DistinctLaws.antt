@@ -66,12 +66,15 @@ fresh_is seen (q ∷ qs) l = go (ltb q 256) refl (fresh_is (set seen q true) qs 
 pub cleared : {A : Type 0} (n : ℕ) (z : A) (j : ℕ) → get_or (replicate n z) j z ≡ z
 cleared n z j = ⊎_elim (get_or-replicate n j z z) (λ h. get_or-eq_default (replicate n z) z (rw (length-replicate n z) h)) (lt_or_le j n)
 
+abbrev pub told : List ℕ → Bool
+told qs = all_below 256 qs && distinct qs
+
 unseen_start : (n : ℕ) (qs : List ℕ) → unseen (replicate n false) qs ≡ true
 unfolding every
 unseen_start n [] = refl
 unseen_start n (q ∷ qs) = ap₂ ◌&&◌ (ap not (cleared n false q)) (unseen_start n qs)
 
-pub fresh_start : (qs : List ℕ) → fresh (replicate 256 false) qs ≡ (all_below 256 qs && distinct qs)
+pub fresh_start : (qs : List ℕ) → fresh (replicate 256 false) qs ≡ told qs
 fresh_start qs =
     fresh_is (replicate 256 false) qs (length-replicate 256 false)
     ∙ ap (λ (x : Bool). all_below 256 qs && (distinct qs && x)) (unseen_start 256 qs)

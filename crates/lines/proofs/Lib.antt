@@ -1,5 +1,4 @@
 pub mod TestLaws
-pub mod OpLineLaws
 pub mod LineCases
 pub mod FactorLaws
 pub mod DistinctLaws

@@ -3,12 +3,12 @@ use Prim.Native.String as string
 use mathlib.Core.Path.{◌≡◌, refl}
 use mathlib.Core.List.{List, [], ◌∷◌, map}
 use lib.Ieee.{Float, of_bits, binary64}
+use Rattle.std.specs.Prelude.{Option, Some, None}
 use Rattle.words.specs.declared.Gate.TheVariants.{Id, X, Y, Z, H, S, Sdg, Sx, Sxdg, Cx, Cz, Swap}
 use Rattle.text.specs.Bytes.{bytes, index, begins}
 use Rattle.text.specs.Numerals.{steps, next_digit, decimal, hex_digit, next_hex, hex16}
 use Rattle.ops.specs.declared.Op.TheVariants as O
-use Rattle.lines.specs.declared.OpRead.{OpRead}
-use Rattle.lines.specs.declared.OpRead.TheVariants.{IsOp, NotOp}
+use Rattle.ops.specs.declared.Op.{Op}
 use Rattle.lines.specs.OpLines.{name_of, targets_in, reals_in, op_after, op}
 
 -- opens the definitions that the cases compute
@@ -17,7 +17,7 @@ unfolding index begins steps next_digit decimal hex_digit next_hex hex16 name_of
 computed = tt
 
 -- the op that a text spells, or none
-abbrev op_of : string.String → OpRead
+abbrev op_of : string.String → Option Op
 op_of s = op (bytes s)
 
 -- 1.0, 0.5 and 0.25 by their bits
@@ -43,7 +43,7 @@ ops =
 
 pub ops_are :
     map op_of ops
-    ≡ map IsOp
+    ≡ map Some
     (O.Native Id 0 0 ∷ O.Native X 1 0 ∷ O.Native Y 2 0 ∷ O.Native Z 3 0 ∷ O.Native H 4 0 ∷ O.Native S 5 0 ∷ O.Native Sdg 6 0 ∷ O.T 7 ∷
     O.Tdg 8 ∷ O.Native Sx 9 0 ∷ O.Native Sxdg 10 0 ∷
     O.Native Cx 1 0 ∷ O.Native Cz 0 1 ∷ O.Native Swap 2 255 ∷
@@ -61,6 +61,6 @@ others =
     "rz:0:3ff0000000000000,3ff0000000000000:" ∷ "depol:0:3ff0000000000000,3ff0000000000000" ∷ "H:0" ∷ "h:00" ∷ "h:+1" ∷ " h:0" ∷ "" ∷
     "h:18446744073709551616" ∷ []
 
-pub others_are_none : map op_of others ≡ map (λ s. NotOp) others
+pub others_are_none : map op_of others ≡ map (λ s. None) others
 unfolding computed
 others_are_none = refl

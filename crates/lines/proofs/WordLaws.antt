@@ -49,9 +49,6 @@ words_word w fs = all_keeps Words set_at_words w (no_letters w) fs (λ j. rw (cl
 
 -- ---- what the code does for one factor
 
-pub set_when : (b : Bool) (i : ℕ) (k r : Key) → b ≡ true → r ≡ set_at k i → r ≡ set_if b i k
-set_when b i k r e h = rw e h
-
 pub place_one : (w : ℕ) (k : Key) (p : List ℕ) (b q : ℕ) (x z : Bool) (k₁ k₂ : Key) → b ≡ get_or p 0 0 → q ≡ (factor_of p).qubit
     → x ≡ sets_x b → k₁ ≡ set_if x (0 + q) k → z ≡ sets_z b → k₂ ≡ set_if z (64 * w + q) k₁ → k₂ ≡ placed w k (factor_of p)
 unfolding placed factor_of

@@ -1,16 +1,16 @@
 -- "`term=WEIGHT:FACTORS`. Factors are X, Y or Z and a qubit, split by commas; none means identity."
-use Rattle.std.specs.Prelude.{ℕ, Bool, true, cond, not, ◌&&◌, ◌||◌, List, [], ◌∷◌, map, ltb, leb, eqb, length, drop, get_or, Float}
+use Rattle.std.specs.Prelude.{ℕ, Bool, true, cond, not, ◌&&◌, ◌||◌, List, [], ◌∷◌, map, ltb, leb, eqb, length, drop, get_or, Float, is_some}
 use Rattle.words.specs.Keys.{Key, set_at, z_at, no_letters}
 use Rattle.terms.specs.Lists.{foldl}
 use Rattle.text.specs.Bytes.{bytes, parts, index, before, after, comma, colon, begins}
 use Rattle.text.specs.Numerals.{decimal, real}
 use Rattle.ops.specs.Marks.{member}
 use Rattle.ops.specs.Task.{Line, every}
-use Rattle.lines.specs.Fields.{is_number, is_real, or_zero, or_zero_real}
+use Rattle.lines.specs.Fields.{or_zero, or_zero_real}
 
 -- X, Y, Z are the bytes 88, 89, 90
 unfoldable pub is_factor : List ℕ → Bool
-is_factor p = let b = get_or p 0 0 in leb 88 b && leb b 90 && is_number (decimal (drop 1 p))
+is_factor p = let b = get_or p 0 0 in leb 88 b && leb b 90 && is_some (decimal (drop 1 p))
 
 unfoldable pub are_factors : List (List ℕ) → Bool
 are_factors [] = true
@@ -22,7 +22,7 @@ factor_texts [] = []
 factor_texts (b ∷ bs) = parts comma (b ∷ bs)
 
 unfoldable pub is_term : List ℕ → Bool
-is_term v = ltb (index colon v) (length v) && (is_real (real (before colon v)) && are_factors (factor_texts (after colon v)))
+is_term v = ltb (index colon v) (length v) && (is_some (real (before colon v)) && are_factors (factor_texts (after colon v)))
 
 abbrev pub is_term_line : List ℕ → Bool
 is_term_line l = begins (bytes "term=") l && is_term (drop 5 l)

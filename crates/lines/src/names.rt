@@ -1,90 +1,96 @@
 // The names of ops.
-ghost use Rattle.std.specs.Prelude.{◌≡◌, cond};
-ghost use Rattle.text.specs.Bytes.{same};
+ghost use Rattle.std.specs.Prelude.{◌≡◌, None};
 ghost use Rattle.lines.specs.OpLines.{one_name, other_name, channel_name, name_of, has_two, real_count};
 
 use crate::Name;
 use text::parts::is_text;
 use words::Gate;
 
-// The name n where s is the text k, or else the other name.
-fn name_if(s: &[u8], k: &[u8], n: Name, other: Name) -> Name
-    ensures { result ≡ cond (same k.now s.now) n other }
+// The native gate with one target that s names.
+fn one_name(s: &[u8]) -> Option<Name>
+    ensures { result ≡ one_name s.now None }
 {
-    if is_text(s, k) {
-        return n;
+    if is_text(s, b"id") {
+        Some(Name::OneTarget(Gate::Id))
+    } else if is_text(s, b"x") {
+        Some(Name::OneTarget(Gate::X))
+    } else if is_text(s, b"y") {
+        Some(Name::OneTarget(Gate::Y))
+    } else if is_text(s, b"z") {
+        Some(Name::OneTarget(Gate::Z))
+    } else if is_text(s, b"h") {
+        Some(Name::OneTarget(Gate::H))
+    } else if is_text(s, b"s") {
+        Some(Name::OneTarget(Gate::S))
+    } else if is_text(s, b"sdg") {
+        Some(Name::OneTarget(Gate::Sdg))
+    } else if is_text(s, b"sx") {
+        Some(Name::OneTarget(Gate::Sx))
+    } else if is_text(s, b"sxdg") {
+        Some(Name::OneTarget(Gate::Sxdg))
+    } else {
+        None
     }
-    other
 }
 
-// The native gate with one target that s names, or else the other name. No two lines have the same text.
-fn one_name(s: &[u8], other: Name) -> Name
-    ensures { result ≡ one_name s.now other }
+// The gate t or tdg, the gate with two targets or the rotation that s names.
+fn other_name(s: &[u8]) -> Option<Name>
+    ensures { result ≡ other_name s.now None }
 {
-    let n = name_if(s, b"sxdg", Name::OneTarget(Gate::Sxdg), other);
-    let n = name_if(s, b"sx", Name::OneTarget(Gate::Sx), n);
-    let n = name_if(s, b"sdg", Name::OneTarget(Gate::Sdg), n);
-    let n = name_if(s, b"s", Name::OneTarget(Gate::S), n);
-    let n = name_if(s, b"h", Name::OneTarget(Gate::H), n);
-    let n = name_if(s, b"z", Name::OneTarget(Gate::Z), n);
-    let n = name_if(s, b"y", Name::OneTarget(Gate::Y), n);
-    let n = name_if(s, b"x", Name::OneTarget(Gate::X), n);
-    name_if(s, b"id", Name::OneTarget(Gate::Id), n)
-}
-
-// The gate t or tdg, the gate with two targets or the rotation that s names, or else the other name.
-fn other_name(s: &[u8], other: Name) -> Name
-    ensures { result ≡ other_name s.now other }
-{
-    let n = name_if(s, b"rzz", Name::Rzz, other);
-    let n = name_if(s, b"p", Name::P, n);
-    let n = name_if(s, b"rz", Name::Rz, n);
-    let n = name_if(s, b"swap", Name::TwoTargets(Gate::Swap), n);
-    let n = name_if(s, b"cz", Name::TwoTargets(Gate::Cz), n);
-    let n = name_if(s, b"cx", Name::TwoTargets(Gate::Cx), n);
-    let n = name_if(s, b"tdg", Name::Tdg, n);
-    name_if(s, b"t", Name::T, n)
+    if is_text(s, b"t") {
+        Some(Name::T)
+    } else if is_text(s, b"tdg") {
+        Some(Name::Tdg)
+    } else if is_text(s, b"cx") {
+        Some(Name::TwoTargets(Gate::Cx))
+    } else if is_text(s, b"cz") {
+        Some(Name::TwoTargets(Gate::Cz))
+    } else if is_text(s, b"swap") {
+        Some(Name::TwoTargets(Gate::Swap))
+    } else if is_text(s, b"rz") {
+        Some(Name::Rz)
+    } else if is_text(s, b"p") {
+        Some(Name::P)
+    } else if is_text(s, b"rzz") {
+        Some(Name::Rzz)
+    } else {
+        None
+    }
 }
 
 // The channel that s names.
-fn channel_name(s: &[u8]) -> Name
+fn channel_name(s: &[u8]) -> Option<Name>
     ensures { result ≡ channel_name s.now }
 {
-    let n = name_if(s, b"depol2", Name::Depol2, Name::NoName);
-    let n = name_if(s, b"thermal", Name::Thermal, n);
-    let n = name_if(s, b"phase", Name::Phase, n);
-    let n = name_if(s, b"damp", Name::Damp, n);
-    let n = name_if(s, b"depol", Name::Depol, n);
-    name_if(s, b"pauli", Name::Pauli, n)
+    if is_text(s, b"pauli") {
+        Some(Name::Pauli)
+    } else if is_text(s, b"depol") {
+        Some(Name::Depol)
+    } else if is_text(s, b"damp") {
+        Some(Name::Damp)
+    } else if is_text(s, b"phase") {
+        Some(Name::Phase)
+    } else if is_text(s, b"thermal") {
+        Some(Name::Thermal)
+    } else if is_text(s, b"depol2") {
+        Some(Name::Depol2)
+    } else {
+        None
+    }
 }
 
 // The op that s names.
-pub fn read_name(s: &[u8]) -> Name
+pub fn read_name(s: &[u8]) -> Option<Name>
     ensures { result ≡ name_of s.now }
 {
-    one_name(s, other_name(s, channel_name(s)))
+    one_name(s).or(other_name(s)).or(channel_name(s))
 }
 
 // Whether the op has two targets.
 pub fn has_two(n: Name) -> bool
     ensures { result ≡ has_two n }
 {
-    match n {
-        Name::OneTarget(_) => false,
-        Name::TwoTargets(_) => true,
-        Name::T => false,
-        Name::Tdg => false,
-        Name::Rz => false,
-        Name::P => false,
-        Name::Rzz => true,
-        Name::Pauli => false,
-        Name::Depol => false,
-        Name::Damp => false,
-        Name::Phase => false,
-        Name::Thermal => false,
-        Name::Depol2 => true,
-        Name::NoName => false,
-    }
+    matches!(n, Name::TwoTargets(_) | Name::Rzz | Name::Depol2)
 }
 
 // How many reals the op has.
@@ -92,19 +98,9 @@ pub fn real_count(n: Name) -> usize
     ensures { result ≡ real_count n }
 {
     match n {
-        Name::OneTarget(_) => 0,
-        Name::TwoTargets(_) => 0,
-        Name::T => 0,
-        Name::Tdg => 0,
-        Name::Rz => 2,
-        Name::P => 2,
-        Name::Rzz => 2,
-        Name::Pauli => 3,
-        Name::Depol => 1,
-        Name::Damp => 1,
-        Name::Phase => 1,
-        Name::Thermal => 3,
-        Name::Depol2 => 1,
-        Name::NoName => 0,
+        Name::OneTarget(_) | Name::TwoTargets(_) | Name::T | Name::Tdg => 0,
+        Name::Depol | Name::Damp | Name::Phase | Name::Depol2 => 1,
+        Name::Rz | Name::P | Name::Rzz => 2,
+        Name::Pauli | Name::Thermal => 3,
     }
 }

@@ -4,8 +4,9 @@ use Prim.Native.Nat.{ℕ, suc, ◌+◌, ◌*◌, ◌<◌, ◌≤◌}
 use native.Mathlib.Omega.{arith}
 use mathlib.Core.Bool.{Bool, true, false, cond, ◌&&◌}
 use mathlib.Core.List.{List, [], ◌∷◌}
-use lib.Dec.{leb, eqb}
-use borrow.Author.Tests.{ne_eqb, leb-true}
+use lib.Dec.{leb}
+use borrow.Author.Tests.{leb-true}
+use Rattle.std.specs.Prelude.{Option, None, Some}
 use Rattle.terms.proofs.CaseLaws.{and_true}
 use Rattle.ops.specs.declared.Op.{Op}
 use Rattle.lines.specs.TermLines.{TermLine}
@@ -14,41 +15,36 @@ use Rattle.layout.specs.Layout.{term_lines, sheet_ops}
 use Rattle.questions.specs.declared.Asked.{Asked}
 use Rattle.questions.specs.declared.Asked.TheVariants.{Two, Three, Four, FiveAndSix, Eleven}
 use Rattle.questions.specs.Verdict.{Verdict, RefusedAt, Passed}
-use Rattle.questions.specs.Questions.{Question, question2, question_of, first_of, unless, ◌or_else◌, head_line, ops_line, line_of, refused_or, first_fault, by_line}
-use Rattle.questions.specs.Asking.{number, head_verdict, term_verdict, count_verdict, op_verdict, asked_verdict}
+use Rattle.questions.specs.Questions.{Question, question2, question_of, first_of, unless, ◌or_else◌, head_line, ops_line, line_of, refused_or, refused_by, first_fault, by_line}
+use Rattle.questions.specs.Asking.{number, number_unless, head_verdict, term_verdict, count_verdict, op_verdict, asked_verdict}
 
 -- ---- a step puts a question, and where it passes, the next
 -- v, and where it passes w
-and_then : Verdict → Verdict → Verdict
+abbrev and_then : Verdict → Verdict → Verdict
 and_then (RefusedAt n k) w = RefusedAt n k
 and_then Passed w = w
 
 pub record Step (F : Verdict → Verdict) : Type 0 where
   pub next : (v : Verdict) → F v ≡ and_then (F Passed) v
 
-pub refused_step : (n line : ℕ) → Step (refused_or n line)
-unfolding and_then
-refused_step n line = record { next = λ v. go (eqb line 0) v }
-  where
-    go : (b : Bool) (v : Verdict) → cond b v (RefusedAt n line) ≡ and_then (cond b Passed (RefusedAt n line)) v
-    go true v = refl
-    go false v = refl
+pub refused_step : (n : ℕ) (line : Option ℕ) → Step (refused_or n line)
+refused_step n None = record { next = λ v. refl }
+refused_step n (Some k) = record { next = λ v. refl }
 
-fault_next : {A : Type 0} (f : A → ℕ) (k : ℕ) (l : List A) (v : Verdict) → first_fault f k l v ≡ and_then (first_fault f k l Passed) v
-unfolding first_fault and_then
+fault_next : {A : Type 0} (f : A → Option ℕ) (k : ℕ) (l : List A) (v : Verdict) → first_fault f k l v ≡ and_then (first_fault f k l Passed) v
+unfolding first_fault
 fault_next f k [] v = refl
-fault_next f k (a ∷ l) v = go (eqb (f a) 0) (fault_next f (suc k) l v)
+fault_next f k (a ∷ l) v = go (f a) (fault_next f (suc k) l v)
   where
-    go : (b : Bool) → first_fault f (suc k) l v ≡ and_then (first_fault f (suc k) l Passed) v
-        → cond b (first_fault f (suc k) l v) (RefusedAt (f a) k) ≡ and_then (cond b (first_fault f (suc k) l Passed) (RefusedAt (f a) k)) v
-    go true e = e
-    go false e = refl
+    go : (n : Option ℕ) → first_fault f (suc k) l v ≡ and_then (first_fault f (suc k) l Passed) v
+        → refused_by n k (first_fault f (suc k) l v) ≡ and_then (refused_by n k (first_fault f (suc k) l Passed)) v
+    go None e = e
+    go (Some n) e = refl
 
-pub fault_step : {A : Type 0} (f : A → ℕ) (k : ℕ) (l : List A) → Step (first_fault f k l)
+pub fault_step : {A : Type 0} (f : A → Option ℕ) (k : ℕ) (l : List A) → Step (first_fault f k l)
 fault_step f k l = record { next = fault_next f k l }
 
 then_then : (x y v : Verdict) → and_then x (and_then y v) ≡ and_then (and_then x y) v
-unfolding and_then
 then_then (RefusedAt n k) y v = refl
 then_then Passed y v = refl
 
@@ -59,12 +55,10 @@ step_twice {F} {G} S T = record {
 
 -- it passes
 pub pass_on : {F : Verdict → Verdict} → Step F → Passed ≡ F Passed → (v : Verdict) → v ≡ F v
-unfolding and_then
 pass_on S e v = sym (S.next v ∙ ap (λ (x : Verdict). and_then x v) (sym e))
 
 -- it refuses
 pub stop_here : {F : Verdict → Verdict} → Step F → {n k : ℕ} → RefusedAt n k ≡ F Passed → (v : Verdict) → RefusedAt n k ≡ F v
-unfolding and_then
 stop_here S e v = sym (S.next v ∙ ap (λ (x : Verdict). and_then x v) (sym e))
 
 -- ---- the steps of a question
@@ -85,58 +79,48 @@ asked_step a h ls = step_twice (head_step a h) (step_twice (term_step a h ls) (s
 
 -- ---- the steps of a question are the question
 -- one question of some lines after another
-joined : (n a b : ℕ) (v : Verdict) → refused_or n a (refused_or n b v) ≡ refused_or n (a or_else b) v
-joined n a b v = go (eqb a 0) refl
-  where
-    go : (x : Bool) → eqb a 0 ≡ x → cond x (refused_or n b v) (RefusedAt n a) ≡ refused_or n (cond x b a) v
-    go true e = refl
-    go false e = sym (ap (λ (x : Bool). cond x v (RefusedAt n a)) e)
+joined : (n : ℕ) (a b : Option ℕ) (v : Verdict) → refused_or n a (refused_or n b v) ≡ refused_or n (a or_else b) v
+joined n None b v = refl
+joined n (Some k) b v = refl
 
 -- a walk at which one question refuses
-walk_is : {A : Type 0} (p : A → Bool) (n k : ℕ) (l : List A) (v : Verdict) → 0 < n → 0 < k
-    → first_fault (λ a. cond (p a) 0 n) k l v ≡ refused_or n (first_of p k l) v
+walk_is : {A : Type 0} (p : A → Bool) (n k : ℕ) (l : List A) (v : Verdict) → first_fault (λ a. number_unless (p a) n) k l v ≡ refused_or n (first_of p k l) v
 unfolding first_fault first_of
-walk_is p n k [] v pn pk = refl
-walk_is p n k (a ∷ l) v pn pk = go (p a) (walk_is p n (suc k) l v pn (omega arith))
+walk_is p n k [] v = refl
+walk_is p n k (a ∷ l) v = go (p a) (walk_is p n (suc k) l v)
   where
-    go : (b : Bool) → first_fault (λ a. cond (p a) 0 n) (suc k) l v ≡ refused_or n (first_of p (suc k) l) v
-        → cond (eqb (cond b 0 n) 0) (first_fault (λ a. cond (p a) 0 n) (suc k) l v) (RefusedAt (cond b 0 n) k) ≡ refused_or n (cond b (first_of p (suc k) l) k) v
+    go : (b : Bool) → first_fault (λ a. number_unless (p a) n) (suc k) l v ≡ refused_or n (first_of p (suc k) l) v
+        → refused_by (number_unless b n) k (first_fault (λ a. number_unless (p a) n) (suc k) l v) ≡ refused_or n (cond b (first_of p (suc k) l) (Some k)) v
     go true e = e
-    go false e =
-        ap (λ (x : Bool). cond x (first_fault (λ a. cond (p a) 0 n) (suc k) l v) (RefusedAt n k)) (ne_eqb n 0 (λ z. omega arith))
-        ∙ sym (ap (λ (x : Bool). cond x v (RefusedAt n k)) (ne_eqb k 0 (λ z. omega arith)))
+    go false e = refl
 
-asked_is : (n : ℕ) (q : Question) (t : ℕ) (ts : List TermLine) (os : List Op) (v : Verdict) → 0 < n
-    → refused_or n (head_line q) (first_fault (λ l. cond (q.term l) 0 n) 7 ts (refused_or n (unless q.ops (7 + t)) (first_fault (λ o. cond (q.op o) 0 n) (8 + t) os v)))
+asked_is : (n : ℕ) (q : Question) (t : ℕ) (ts : List TermLine) (os : List Op) (v : Verdict)
+    → refused_or n (head_line q) (first_fault (λ l. number_unless (q.term l) n) 7 ts (refused_or n (unless q.ops (7 + t)) (first_fault (λ o. number_unless (q.op o) n) (8 + t) os v)))
     ≡ refused_or n (head_line q or_else first_of q.term 7 ts or_else ops_line q t os) v
-asked_is n q t ts os v h =
-    let e1 = walk_is q.op n (8 + t) os v h (omega arith) in
-    let e2 = joined n (unless q.ops (7 + t)) (first_of q.op (8 + t) os) v in
-    let e3 = walk_is q.term n 7 ts (refused_or n (ops_line q t os) v) h (omega arith) in
-    let e4 = joined n (first_of q.term 7 ts) (ops_line q t os) v in
-    ap (λ (x : Verdict). refused_or n (head_line q) (first_fault (λ l. cond (q.term l) 0 n) 7 ts (refused_or n (unless q.ops (7 + t)) x))) e1
-    ∙ ap (λ (x : Verdict). refused_or n (head_line q) (first_fault (λ l. cond (q.term l) 0 n) 7 ts x)) e2
-    ∙ ap (refused_or n (head_line q)) (e3 ∙ e4)
+asked_is n q t ts os v =
+    let later = ap (refused_or n (unless q.ops (7 + t))) (walk_is q.op n (8 + t) os v) ∙ joined n (unless q.ops (7 + t)) (first_of q.op (8 + t) os) v in
+    ap (λ (x : Verdict). refused_or n (head_line q) (first_fault (λ l. number_unless (q.term l) n) 7 ts x)) later
+    ∙ ap (refused_or n (head_line q)) (walk_is q.term n 7 ts (refused_or n (ops_line q t os) v) ∙ joined n (first_of q.term 7 ts) (ops_line q t os) v)
     ∙ joined n (head_line q) (first_of q.term 7 ts or_else ops_line q t os) v
 
 module _ (h : Head) (ls : List (List ℕ)) (v : Verdict) where
   two_is : asked_verdict Two h ls v ≡ refused_or 2 (line_of Two h ls) v
-  two_is = asked_is 2 (question_of Two h) h.terms (term_lines h ls) (sheet_ops h ls) v (omega arith)
+  two_is = asked_is 2 (question_of Two h) h.terms (term_lines h ls) (sheet_ops h ls) v
 
   pub three_is : asked_verdict Three h ls v ≡ refused_or 3 (line_of Three h ls) v
-  three_is = asked_is 3 (question_of Three h) h.terms (term_lines h ls) (sheet_ops h ls) v (omega arith)
+  three_is = asked_is 3 (question_of Three h) h.terms (term_lines h ls) (sheet_ops h ls) v
 
   pub four_is : asked_verdict Four h ls v ≡ refused_or 4 (line_of Four h ls) v
-  four_is = asked_is 4 (question_of Four h) h.terms (term_lines h ls) (sheet_ops h ls) v (omega arith)
+  four_is = asked_is 4 (question_of Four h) h.terms (term_lines h ls) (sheet_ops h ls) v
 
   pub eleven_is : asked_verdict Eleven h ls v ≡ refused_or 11 (line_of Eleven h ls) v
-  eleven_is = asked_is 11 (question_of Eleven h) h.terms (term_lines h ls) (sheet_ops h ls) v (omega arith)
+  eleven_is = asked_is 11 (question_of Eleven h) h.terms (term_lines h ls) (sheet_ops h ls) v
 
   pub five_and_six_is : asked_verdict FiveAndSix h ls v ≡ by_line h ls v
   five_and_six_is = refl
 
 -- ---- question 2 asks nothing of a `term` or an `op` line
-none_asked : {A : Type 0} (k : ℕ) (l : List A) (v : Verdict) → first_fault (λ a. 0) k l v ≡ v
+none_asked : {A : Type 0} (k : ℕ) (l : List A) (v : Verdict) → first_fault (λ a. None) k l v ≡ v
 unfolding first_fault
 none_asked k [] v = refl
 none_asked k (a ∷ l) v = none_asked (suc k) l v

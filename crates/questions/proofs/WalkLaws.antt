@@ -6,67 +6,51 @@ use native.Mathlib.Nat.{add-zero, add-suc}
 use native.Mathlib.Omega.{arith}
 use mathlib.Core.Bool.{Bool, true, false, cond, ◌&&◌}
 use mathlib.Core.List.{List, [], ◌∷◌}
-use lib.Dec.{ltb, eqb}
+use lib.Dec.{ltb}
 use lib.ListN.{length, take, drop, get_or, drop_of_length-le, get_or-map}
 use lib.Seq.{drop-cons, get_or-take, get_or-drop}
-use borrow.Author.Tests.{eq-eqb, ne_eqb, ltb-true, lt-ltb}
+use borrow.Author.Tests.{ltb-true, lt-ltb}
 use Rattle.std.specs.Prelude.{Option, None, Some}
 use Rattle.text.specs.Bytes.{parts, newline}
 use Rattle.terms.proofs.CaseLaws.{and_true}
-use Rattle.ops.specs.declared.Refusal.{Refusal}
-use Rattle.ops.specs.declared.Refusal.TheVariants.{Layout, Counts, RunLines, Reals, Qubits, Repeats, Room, NotFinite, TooMany, Angles}
-use Rattle.ops.specs.Refusals.{number_of}
 use Rattle.ops.specs.Task.{every}
 use Rattle.lines.specs.TermLines.{line_on, all_below, distinct}
 use Rattle.layout.specs.declared.Head.{Head}
 use Rattle.layout.specs.Cursor.{line_at, start_at}
 use Rattle.layout.specs.Layout.{question1, term_lines}
 use Rattle.layout.proofs.CursorLaws.{line_there}
-use Rattle.questions.specs.Verdict.{Verdict, RefusedAt, Passed, number_in}
-use Rattle.questions.specs.Questions.{fault_of, first_fault}
+use Rattle.questions.specs.Verdict.{Verdict, RefusedAt, Passed}
+use Rattle.questions.specs.Questions.{fault_of, refused_by, first_fault}
 
 -- ---- a walk that has passed i elements, the first of which stands at line k: none is refused
-pub record Walked {A : Type 0} (f : A → ℕ) (k : ℕ) (l : List A) (i : ℕ) : Type 0 where
+pub record Walked {A : Type 0} (f : A → Option ℕ) (k : ℕ) (l : List A) (i : ℕ) : Type 0 where
   pub rest : first_fault f (k + i) (drop i l) Passed ≡ first_fault f k l Passed
 
-pub walked_none : {A : Type 0} (f : A → ℕ) (k : ℕ) (l : List A) → Walked f k l 0
+pub walked_none : {A : Type 0} (f : A → Option ℕ) (k : ℕ) (l : List A) → Walked f k l 0
 walked_none f k l = record { rest = ap (λ (m : ℕ). first_fault f m l Passed) (add-zero k) }
 
-module _ {A : Type 0} {f : A → ℕ} {k i : ℕ} {l : List A} (W : Walked f k l i) where
+module _ {A : Type 0} {f : A → Option ℕ} {k i : ℕ} {l : List A} (W : Walked f k l i) where
   -- what refuses the next
-  module _ (d : A) (n : ℕ) (h : i < length l) (e : n ≡ f (get_or l i d)) where
-    here : cond (eqb n 0) (first_fault f (suc (k + i)) (drop (suc i) l) Passed) (RefusedAt n (k + i)) ≡ first_fault f k l Passed
+  module _ (d : A) (n : Option ℕ) (h : i < length l) (e : n ≡ f (get_or l i d)) where
+    here : refused_by n (k + i) (first_fault f (suc (k + i)) (drop (suc i) l) Passed) ≡ first_fault f k l Passed
     unfolding first_fault
     here =
-        ap (λ (m : ℕ). cond (eqb m 0) (first_fault f (suc (k + i)) (drop (suc i) l) Passed) (RefusedAt m (k + i))) e
+        ap (λ (m : Option ℕ). refused_by m (k + i) (first_fault f (suc (k + i)) (drop (suc i) l) Passed)) e
         ∙ sym (ap (λ (r : List A). first_fault f (k + i) r Passed) (drop-cons l i d h)) ∙ W.rest
 
-    pub walked_stop : (n ≡ 0 → ⊥) → RefusedAt n (k + i) ≡ first_fault f k l Passed
-    walked_stop z = sym (ap (λ (b : Bool). cond b (first_fault f (suc (k + i)) (drop (suc i) l) Passed) (RefusedAt n (k + i))) (ne_eqb n 0 z)) ∙ here
+  pub walked_stop : (d : A) (n : ℕ) → i < length l → Some n ≡ f (get_or l i d) → RefusedAt n (k + i) ≡ first_fault f k l Passed
+  walked_stop d n h e = here d (Some n) h e
 
-    pub walked_more : n ≡ 0 → Walked f k l (i + 1)
-    walked_more z = record {
-      rest =
-        ap (λ (j : ℕ). first_fault f (k + j) (drop j l) Passed) (add-one i) ∙ ap (λ (m : ℕ). first_fault f m (drop (suc i) l) Passed) (add-suc k i)
-        ∙ sym (ap (λ (b : Bool). cond b (first_fault f (suc (k + i)) (drop (suc i) l) Passed) (RefusedAt n (k + i))) (eq-eqb n 0 z)) ∙ here;
-    }
+  pub walked_more : (d : A) → i < length l → None ≡ f (get_or l i d) → Walked f k l (i + 1)
+  walked_more d h e = record {
+    rest =
+      ap (λ (j : ℕ). first_fault f (k + j) (drop j l) Passed) (add-one i) ∙ ap (λ (m : ℕ). first_fault f m (drop (suc i) l) Passed) (add-suc k i)
+      ∙ here d None h e;
+  }
 
   pub walked_all : length l ≤ i → Passed ≡ first_fault f k l Passed
   unfolding first_fault
   walked_all h = sym (ap (λ (r : List A). first_fault f (k + i) r Passed) (drop_of_length-le l h)) ∙ W.rest
-
--- no refusal has number 0
-pub has_number : (r : Refusal) → number_of r ≡ 0 → ⊥
-has_number Layout e = omega arith
-has_number Counts e = omega arith
-has_number RunLines e = omega arith
-has_number Reals e = omega arith
-has_number Qubits e = omega arith
-has_number Repeats e = omega arith
-has_number Room e = omega arith
-has_number NotFinite e = omega arith
-has_number TooMany e = omega arith
-has_number Angles e = omega arith
 
 -- ---- `term` line i of a sheet, where it starts
 pub term_line : (h : Head) (s : List ℕ) (i at : ℕ) (l : List ℕ) → i < h.terms → at ≡ start_at s 0 (6 + i) → l ≡ line_at s at
@@ -89,5 +73,5 @@ pub fault_by_set : (n : ℕ) (qs : List ℕ) → n ≤ 256 → fault_of (all_bel
 fault_by_set n qs h = go (all_below n qs) refl
   where
     go : (b : Bool) → all_below n qs ≡ b → fault_of b (all_below 256 qs && distinct qs) ≡ fault_of b (distinct qs)
-    go true e = ap (λ (x : Bool). cond (x && distinct qs) 0 6) (below_more n 256 qs h e)
+    go true e = ap (λ (x : Bool). cond (x && distinct qs) None (Some 6)) (below_more n 256 qs h e)
     go false e = refl

@@ -1,5 +1,5 @@
 -- Words of the private contracts: how the questions are asked.
-use Rattle.std.specs.Prelude.{◌≡◌, ℕ, ◌+◌, ◌≤◌, cond, List}
+use Rattle.std.specs.Prelude.{◌≡◌, ℕ, ◌+◌, ◌≤◌, cond, List, Option, None, Some}
 use Rattle.ops.specs.declared.Op.{Op}
 use Rattle.layout.specs.declared.Head.{Head}
 use Rattle.layout.specs.Layout.{question1, term_lines, sheet_ops}
@@ -11,7 +11,7 @@ use Rattle.questions.specs.Questions.{question_of, unless, head_line, line_of, r
 
 -- what questions 3 to 7 may rely on: the sheet passes 1 and 2, and os is its op list
 pub record Sound (h : Head) (ls : List (List ℕ)) (os : List Op) : Type 0 where
-  pub laid : question1 h ls ≡ 0
+  pub laid : question1 h ls ≡ None
   pub qubits : h.qubits ≤ 256
   pub limit : h.limit ≤ 1048576
   pub terms : h.terms ≤ 1024
@@ -26,21 +26,25 @@ number Four = 4
 number FiveAndSix = 5
 number Eleven = 11
 
--- the number that refuses a `term` line, 0 for none
-abbrev pub term_number : Asked → Head → TermLine → ℕ
-term_number Two h l = 0
-term_number Three h l = cond ((question_of Three h).term l) 0 3
-term_number Four h l = cond ((question_of Four h).term l) 0 4
-term_number FiveAndSix h l = term_fault h l
-term_number Eleven h l = 0
+-- the number of a question, unless the answer is yes
+abbrev pub number_unless : Bool → ℕ → Option ℕ
+number_unless b n = cond b None (Some n)
 
--- the number that refuses an op, 0 for none
-abbrev pub op_number : Asked → Head → Op → ℕ
-op_number Two h o = 0
-op_number Three h o = cond ((question_of Three h).op o) 0 3
-op_number Four h o = cond ((question_of Four h).op o) 0 4
+-- the number that refuses a `term` line
+abbrev pub term_number : Asked → Head → TermLine → Option ℕ
+term_number Two h l = None
+term_number Three h l = number_unless ((question_of Three h).term l) 3
+term_number Four h l = number_unless ((question_of Four h).term l) 4
+term_number FiveAndSix h l = term_fault h l
+term_number Eleven h l = None
+
+-- the number that refuses an op
+abbrev pub op_number : Asked → Head → Op → Option ℕ
+op_number Two h o = None
+op_number Three h o = number_unless ((question_of Three h).op o) 3
+op_number Four h o = number_unless ((question_of Four h).op o) 4
 op_number FiveAndSix h o = op_fault h o
-op_number Eleven h o = cond ((question_of Eleven h).op o) 0 11
+op_number Eleven h o = number_unless ((question_of Eleven h).op o) 11
 
 -- a question put to the head, the `term` lines, `ops` and the ops, then v
 abbrev pub head_verdict : Asked → Head → Verdict → Verdict

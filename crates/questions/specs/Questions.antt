@@ -1,6 +1,6 @@
 -- "Questions before and during a run": 1 to 7 and 11. "Each is put to the whole sheet before the next, 1 to 7; the line returned is the first that
 -- fails, counted from 1." 11 is put after 4 (2026-06), and 5 and 6 together, line by line (2026-01).
-use Rattle.std.specs.Prelude.{ℕ, suc, ◌+◌, ◌*◌, Bool, true, cond, ◌&&◌, List, [], ◌∷◌, leb, eqb, Float}
+use Rattle.std.specs.Prelude.{ℕ, suc, ◌+◌, ◌*◌, Bool, true, cond, ◌&&◌, List, [], ◌∷◌, leb, eqb, Float, Option, None, Some}
 use Rattle.std.specs.Float.Ieee.{eq}
 use Rattle.numbers.specs.Constants.{one64}
 use Rattle.numbers.specs.Tests.{is_finite, is_epsilon}
@@ -140,36 +140,38 @@ places_fit Wide qubits places = true
 abbrev pub question7 : Head → ℕ → ℕ → Bool
 question7 h rows places = leb (2 * h.limit) rows && places_fit h.run h.qubits places
 
--- ---- the first line at which the answer is no, where 0 stands for none
+-- ---- the first line at which the answer is no
 infixr 20 ◌or_else◌
-abbrev pub ◌or_else◌ : ℕ → ℕ → ℕ
-a or_else b = cond (eqb a 0) b a
+abbrev pub ◌or_else◌ : Option ℕ → Option ℕ → Option ℕ
+None or_else b = b
+(Some k) or_else b = Some k
 
 -- line k, unless the answer is yes
-abbrev pub unless : Bool → ℕ → ℕ
-unless b k = cond b 0 k
+abbrev pub unless : Bool → ℕ → Option ℕ
+unless b k = cond b None (Some k)
 
 -- lines from line k on
-unfoldable pub first_of : {A : Type 0} → (A → Bool) → ℕ → List A → ℕ
-first_of p k [] = 0
-first_of p k (a ∷ l) = let r = first_of p (suc k) l in cond (p a) r k
+unfoldable pub first_of : {A : Type 0} → (A → Bool) → ℕ → List A → Option ℕ
+first_of p k [] = None
+first_of p k (a ∷ l) = let r = first_of p (suc k) l in cond (p a) r (Some k)
 
 -- the lines `qubits` (1) to `terms` (6)
-abbrev pub head_line : Question → ℕ
+abbrev pub head_line : Question → Option ℕ
 head_line q = unless q.qubits 1 or_else unless q.epsilon 3 or_else unless q.limit 5 or_else unless q.terms 6
 
 -- `ops`, and the `op` lines, where there are t `term` lines
-abbrev pub ops_line : Question → ℕ → List Op → ℕ
+abbrev pub ops_line : Question → ℕ → List Op → Option ℕ
 ops_line q t os = unless q.ops (7 + t) or_else first_of q.op (8 + t) os
 
-abbrev pub first_no : Question → ℕ → List TermLine → List Op → ℕ
+abbrev pub first_no : Question → ℕ → List TermLine → List Op → Option ℕ
 first_no q t ls os = head_line q or_else first_of q.term 7 ls or_else ops_line q t os
 
 -- ---- the verdict: the number of the first question that fails, and its line
-abbrev pub refused_or : ℕ → ℕ → Verdict → Verdict
-refused_or n line v = cond (eqb line 0) v (RefusedAt n line)
+abbrev pub refused_or : ℕ → Option ℕ → Verdict → Verdict
+refused_or n None v = v
+refused_or n (Some k) v = RefusedAt n k
 
-abbrev pub line_of : Asked → Head → List (List ℕ) → ℕ
+abbrev pub line_of : Asked → Head → List (List ℕ) → Option ℕ
 line_of a h ls = first_no (question_of a h) h.terms (term_lines h ls) (sheet_ops h ls)
 
 abbrev pub room_verdict : Head → ℕ → ℕ → Verdict
@@ -185,20 +187,24 @@ by_question h ls v =
 
 -- ---- 5 and 6: "They are now put line by line, 5 before 6 on one line." (2026-01)
 
--- the number that refuses a line, by whether its qubits are below `qubits` and whether they are distinct; 0 if neither does
-abbrev pub fault_of : Bool → Bool → ℕ
-fault_of below apart = cond below (cond apart 0 6) 5
+-- the number that refuses a line, by whether its qubits are below `qubits` and whether they are distinct
+abbrev pub fault_of : Bool → Bool → Option ℕ
+fault_of below apart = cond below (cond apart None (Some 6)) (Some 5)
 
-abbrev pub term_fault : Head → TermLine → ℕ
+abbrev pub term_fault : Head → TermLine → Option ℕ
 term_fault h l = fault_of ((question5 h).term l) (question6.term l)
 
-abbrev pub op_fault : Head → Op → ℕ
+abbrev pub op_fault : Head → Op → Option ℕ
 op_fault h o = fault_of ((question5 h).op o) (question6.op o)
 
 -- the first line from line k on that is refused, and by what number; else v
-unfoldable pub first_fault : {A : Type 0} → (A → ℕ) → ℕ → List A → Verdict → Verdict
+abbrev pub refused_by : Option ℕ → ℕ → Verdict → Verdict
+refused_by None k v = v
+refused_by (Some n) k v = RefusedAt n k
+
+unfoldable pub first_fault : {A : Type 0} → (A → Option ℕ) → ℕ → List A → Verdict → Verdict
 first_fault f k [] v = v
-first_fault f k (a ∷ l) v = let r = first_fault f (suc k) l v in cond (eqb (f a) 0) r (RefusedAt (f a) k)
+first_fault f k (a ∷ l) v = let r = first_fault f (suc k) l v in refused_by (f a) k r
 
 -- the `term` lines, the `op` lines, then v
 abbrev pub by_line : Head → List (List ℕ) → Verdict → Verdict

@@ -13,7 +13,6 @@ abbrev pub verdict_of : Result (Unit {0}) Refused → Verdict
 verdict_of (Ok u) = Passed
 verdict_of (Err r) = RefusedAt (number_of r.by) r.line
 
--- the number of a refusal, 0 for none
-abbrev pub number_in : Option Refusal → ℕ
-number_in None = 0
-number_in (Some r) = number_of r
+abbrev pub number_in : Option Refusal → Option ℕ
+number_in None = None
+number_in (Some r) = Some (number_of r)

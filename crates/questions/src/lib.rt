@@ -1,7 +1,7 @@
 // Questions 1 to 7 and 11 put to a sheet: the first that is answered no, and its line.
 #![tactic(auto)]
 
-ghost use Rattle.std.specs.Prelude.{◌≡◌, ◌≤◌, cond};
+ghost use Rattle.std.specs.Prelude.{◌≡◌, ◌≤◌, None, cond};
 ghost use Rattle.text.specs.Bytes.{parts, newline};
 ghost use Rattle.layout.specs.Layout.{question1, sheet_ops};
 ghost use Rattle.ops.specs.Refusals.{number_of};
@@ -52,7 +52,7 @@ pub struct LaidOut<'a> {
     pub text: &'a [u8],
     pub head: Head,
     pub ops: &'a [Op],
-    ghost laid: { question1 head (parts newline text.now) ≡ 0 },
+    ghost laid: { question1 head (parts newline text.now) ≡ None },
     ghost qubits: { head.qubits ≤ 256 },
     ghost limit: { head.limit ≤ 1048576 },
     ghost terms: { head.terms ≤ 1024 },

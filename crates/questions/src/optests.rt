@@ -1,5 +1,5 @@
 // What the questions ask of one op.
-ghost use Rattle.std.specs.Prelude.{◌≡◌, cond};
+ghost use Rattle.std.specs.Prelude.{◌≡◌};
 ghost use Rattle.ops.specs.Ops.{shape_of, targets};
 ghost use Rattle.ops.specs.Refusals.{number_of};
 ghost use Rattle.ops.specs.Sets.{list_of};
@@ -7,7 +7,7 @@ ghost use Rattle.ops.specs.Task.{not_channel, reals_fit, pair_holds, distinct_ta
 ghost use Rattle.lines.specs.TermLines.{all_below};
 ghost use Rattle.questions.specs.Verdict.{number_in};
 ghost use Rattle.questions.specs.Questions.{channel_fits, fault_of};
-ghost use Rattle.questions.specs.Asking.{op_number};
+ghost use Rattle.questions.specs.Asking.{number_unless, op_number};
 
 use crate::Asked;
 use layout::Head;
@@ -18,7 +18,7 @@ use ops::{Op, Refusal, Run};
 
 // What refuses a line, unless the answer is yes.
 pub(crate) fn refusal_unless(fits: bool, by: Refusal) -> Option<Refusal>
-    ensures { number_in result ≡ cond fits 0 (number_of by) }
+    ensures { number_in result ≡ number_unless fits (number_of by) }
 {
     if fits { None } else { Some(by) }
 }

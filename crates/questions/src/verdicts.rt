@@ -16,8 +16,12 @@ use ops::{Refusal, Run};
 pub fn early_verdict(s: &[u8], head: Head) -> Result<(), Refused>
     ensures { verdict_of result ≡ early_verdict head (parts newline s.now) }
 {
-    let bad = first_bad_line(s, head.terms, head.ops);
-    Refused::unless(bad == 0, Refusal::Layout, bad)?;
+    if let Some(line) = first_bad_line(s, head.terms, head.ops) {
+        return Err(Refused {
+            by: Refusal::Layout,
+            line,
+        });
+    }
     ask_head(Asked::Two, head)?;
     ask_count(Asked::Two, head)
 }

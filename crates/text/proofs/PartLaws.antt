@@ -2,14 +2,18 @@
 use Prim.Native.Nat.{ℕ, suc, ◌+◌, ◌-◌, ◌<◌, ◌≤◌}
 use mathlib.Core.Path.{◌≡◌, refl, sym, ap, ◌∙◌}
 use mathlib.Core.List.{List, [], ◌∷◌}
-use mathlib.Core.Bool.{Bool, true, false, cond, and-false, and-eq-true_iff}
+use mathlib.Core.Bool.{Bool, true, false, cond, ◌&&◌, and-eq-true_iff}
 use native.Mathlib.Numerals.{add-one}
 use native.Mathlib.Nat.{add_assoc, le_of_suc-le-suc}
 use native.Mathlib.Omega.{arith}
 use borrow.Author.Tests.{eq-eqb, ne_eqb, eqb-true, ltb-true, ltb-false}
 use lib.ListN.{length, get_or, take, drop, length-drop, drop_of_length-le}
-use lib.Seq.{drop-cons, drop-drop, take_all}
+use lib.Seq.{drop-drop, take_all}
 use lib.Dec.{eqb, ltb}
+use Rattle.std.specs.List.{position_or_len, slice_split, onto_first}
+use Rattle.std.specs.Prelude.{Option, Some, None, unwrap_or, not}
+use Rattle.std.proofs.lemmas.Bool.Decides.{nat_tests}
+use lib.Pointwise.{pointwise}
 use Rattle.text.specs.Bytes.{parts, on_first, index, before, after, begins, same}
 
 -- the part `&s[a..]`
@@ -18,19 +22,31 @@ tail_is s a = take_all (length s - a) (drop a s) (rw (length-drop a s) (omega ar
 
 -- ---- where the first c stands
 
--- a search that has passed i bytes
-module _ (c : ℕ) (s : List ℕ) (i : ℕ) (inv : i + index c (drop i s) ≡ index c s) where
-  pub index_found : i < length s → get_or s i 0 ≡ c → i ≡ index c s
-  unfolding index
-  index_found h e = omega (arith, rw (drop-cons s i 0, eq-eqb _ _ e) at inv)
+-- what std's `position` answers
+index_position : (c : ℕ) (s : List ℕ) → position_or_len (λ b. eqb b c) s ≡ index c s
+unfolding index
+index_position c [] = refl
+index_position c (b ∷ bs) = go (index_position c bs) (eqb b c)
+  where
+    go : position_or_len (λ b. eqb b c) bs ≡ index c bs → (t : Bool) → cond (not t) (1 + position_or_len (λ b. eqb b c) bs) 0 ≡ cond t 0 (suc (index c bs))
+    go ih true = refl
+    go ih false = omega (arith, ih)
 
-  pub index_next : i < length s → (get_or s i 0 ≡ c → ⊥) → i + 1 + index c (drop (i + 1) s) ≡ index c s
-  unfolding index
-  index_next h e = rw add-one (omega (arith, rw (drop-cons s i 0, ne_eqb _ _ e) at inv))
+pub index_within : (c : ℕ) (s : List ℕ) → index c s ≤ length s
+unfolding index
+index_within c [] = omega arith
+index_within c (b ∷ bs) = go (index_within c bs) (eqb b c)
+  where
+    go : index c bs ≤ length bs → (t : Bool) → cond t 0 (suc (index c bs)) ≤ suc (length bs)
+    go ih true = omega arith
+    go ih false = omega (arith, ih)
 
-  pub index_none : length s ≤ i → i ≡ index c s
-  unfolding index
-  index_none h = omega (arith, rw (drop_of_length-le s h) at inv)
+pub index_found : (c : ℕ) (s : List ℕ) (r : Option ℕ) → let p = position_or_len (λ b. eqb b c) s in r ≡ cond (ltb p (length s)) (Some p) None → unwrap_or r (length s) ≡ index c s
+index_found c s r e = rw (e, index_position c s) (go (ltb (index c s) (length s)) refl)
+  where
+    go : (t : Bool) → ltb (index c s) (length s) ≡ t → unwrap_or (cond t (Some (index c s)) None) (length s) ≡ index c s
+    go true q = refl
+    go false q = let l = ltb-false _ _ q in omega (arith, index_within c s)
 
 -- the texts before and after it
 module _ (c : ℕ) (s : List ℕ) (n : ℕ) (e : n ≡ index c s) where
@@ -90,6 +106,17 @@ parts_some c (b ∷ bs) = go (parts_some c bs) (eqb b c)
     go k true = omega arith
     go k false = first (parts c bs) k
 
+-- they are what std's `split` gives
+pub parts_split : (c : ℕ) (s : List ℕ) → slice_split (λ b. eqb b c) s ≡ parts c s
+unfolding parts on_first
+parts_split c [] = refl
+parts_split c (b ∷ bs) = go (slice_split (λ b. eqb b c) bs) (parts c bs) (parts_split c bs) (parts_some c bs) (eqb b c)
+  where
+    go : (qs ps : List (List ℕ)) → qs ≡ ps → 0 < length ps → (t : Bool) → cond t ([] ∷ qs) (onto_first b qs) ≡ cond t ([] ∷ ps) (on_first b ps)
+    go qs ps e k true = rw e
+    go qs [] e k false = absurd (omega (arith, k))
+    go qs (p ∷ ps) e k false = rw e
+
 -- ---- a cursor at a place of a text, r the text from there, n where the next c stands in r
 
 module _ (c : ℕ) (s : List ℕ) (at : ℕ) (r : List ℕ) (t : r ≡ drop at s) (n : ℕ) (e : n ≡ index c r) where
@@ -113,25 +140,30 @@ here c s at r t n e p u = go (ltb n (length r)) refl
 
 -- ---- comparisons
 
--- a comparison that has passed i bytes
-module _ (k s : List ℕ) (i : ℕ) (fits : length k ≤ length s) (inv : begins (drop i k) (drop i s) ≡ begins k s) (h : i < length k) where
-  pub begins_next : get_or s i 0 ≡ get_or k i 0 → begins (drop (i + 1) k) (drop (i + 1) s) ≡ begins k s
-  unfolding begins
-  begins_next e = let h2 : i < length s = omega arith in rw add-one (rw (drop-cons k i 0, drop-cons s i 0 h2, eq-eqb _ _ e) at inv)
+-- what std's `starts_with` and `==` answer
+swapped : (a b : ℕ) → eqb a b ≡ eqb b a
+swapped a b = grind (arith, nat_tests)
 
-  pub begins_stop : (get_or s i 0 ≡ get_or k i 0 → ⊥) → false ≡ begins k s
-  unfolding begins
-  begins_stop e = let h2 : i < length s = omega arith in rw (drop-cons k i 0, drop-cons s i 0 h2, ne_eqb _ _ e) at inv
-
-pub begins_end : (k s : List ℕ) (i : ℕ) → begins (drop i k) (drop i s) ≡ begins k s → length k ≤ i → true ≡ begins k s
+pub begins_starts : (k s : List ℕ) → pointwise eqb k (take (length k) s) ≡ begins k s
 unfolding begins
-begins_end k s i inv h = rw (drop_of_length-le k h) at inv
+begins_starts [] s = refl
+begins_starts (b ∷ k) [] = refl
+begins_starts (b ∷ k) (d ∷ s) = rw (begins_starts k s, swapped b d)
 
-pub begins_short : (k s : List ℕ) → length s < length k → false ≡ begins k s
+pub same_pointwise : (k s : List ℕ) → pointwise eqb s k ≡ same k s
 unfolding begins
-begins_short [] s h = absurd (omega (arith, h))
-begins_short (b ∷ k) [] h = refl
-begins_short (b ∷ k) (d ∷ s) h = rw (← begins_short k s (le_of_suc-le-suc h), and-false)
+same_pointwise [] [] = refl
+same_pointwise [] (d ∷ s) = rw (ne_eqb (suc (length s)) 0 (λ e. omega arith))
+same_pointwise (b ∷ k) [] = rw (ne_eqb 0 (suc (length k)) (λ e. omega arith))
+same_pointwise (b ∷ k) (d ∷ s) = rw (same_pointwise k s) (go (eqb d b) (eqb (length s) (length k)) (begins k s) ∙ rw (swapped_suc (length s) (length k)))
+  where
+    go : (t u w : Bool) → (t && (u && w)) ≡ (u && (t && w))
+    go true u w = refl
+    go false true w = refl
+    go false false w = refl
+
+    swapped_suc : (m n : ℕ) → eqb (suc m) (suc n) ≡ eqb m n
+    swapped_suc m n = grind (arith, nat_tests)
 
 -- a text that starts with k, of k's length
 pub begins_is : (k s : List ℕ) → length s ≡ length k → begins k s ≡ true → k ≡ s

@@ -1,14 +1,10 @@
--- Numbers as texts: how they are read, and how they are spelled.
-use Rattle.std.specs.Prelude.{ℕ, zero, suc, ◌+◌, ◌-◌, ◌*◌, ◌/◌, ◌%◌, ◌^◌, Bool, cond, ◌&&◌, List, [], ◌∷◌, ◌++◌, ltb, leb, eqb, length}
+-- Somes as texts: how they are read, and how they are spelled.
+use Rattle.std.specs.Prelude.{ℕ, zero, suc, ◌+◌, ◌-◌, ◌*◌, ◌/◌, ◌%◌, ◌^◌, Bool, cond, ◌&&◌, List, [], ◌∷◌, ◌++◌, Float, Option, Some, None, option_map, ltb, leb, eqb, length}
 use Rattle.std.specs.Float.Ieee.{of_bits}
 use Rattle.std.specs.Float.{binary64}
-use Rattle.text.specs.declared.Read.{Read}
-use Rattle.text.specs.declared.Read.TheVariants.{Number, Bad}
-use Rattle.text.specs.declared.Real.{Real}
-use Rattle.text.specs.declared.Real.TheVariants.{Value, NotReal}
 
 -- r after a step for each byte of the text
-unfoldable pub steps : (Read → ℕ → Read) → List ℕ → Read → Read
+unfoldable pub steps : (Option ℕ → ℕ → Option ℕ) → List ℕ → Option ℕ → Option ℕ
 steps f [] r = r
 steps f (b ∷ bs) r = steps f bs (f r b)
 
@@ -16,32 +12,28 @@ steps f (b ∷ bs) r = steps f bs (f r b)
 abbrev pub is_digit : ℕ → Bool
 is_digit b = leb 48 b && leb b 57
 
-unfoldable pub next_digit : Read → ℕ → Read
-next_digit Bad b = Bad
-next_digit (Number v) b = let n = 10 * v + (b - 48) in cond (is_digit b && ltb n (2 ^ 64)) (Number n) Bad
+unfoldable pub next_digit : Option ℕ → ℕ → Option ℕ
+next_digit None b = None
+next_digit (Some v) b = let n = 10 * v + (b - 48) in cond (is_digit b && ltb n (2 ^ 64)) (Some n) None
 
-unfoldable pub decimal : List ℕ → Read
-decimal [] = Bad
-decimal (b ∷ []) = steps next_digit (b ∷ []) (Number 0)
-decimal (b ∷ d ∷ bs) = cond (eqb b 48) Bad (steps next_digit (b ∷ d ∷ bs) (Number 0))
+unfoldable pub decimal : List ℕ → Option ℕ
+decimal [] = None
+decimal (b ∷ []) = steps next_digit (b ∷ []) (Some 0)
+decimal (b ∷ d ∷ bs) = cond (eqb b 48) None (steps next_digit (b ∷ d ∷ bs) (Some 0))
 
--- "A real number is the 16 lowercase hexadecimal digits of its binary64 bits." 16 stands for any other byte
-unfoldable pub hex_digit : ℕ → ℕ
-hex_digit b = cond (ltb b 48) 16 (cond (leb b 57) (b - 48) (cond (ltb b 97) 16 (cond (leb b 102) (b - 87) 16)))
+-- "A real number is the 16 lowercase hexadecimal digits of its binary64 bits."
+unfoldable pub hex_digit : ℕ → Option ℕ
+hex_digit b = cond (leb 48 b && leb b 57) (Some (b - 48)) (cond (leb 97 b && leb b 102) (Some (b - 87)) None)
 
-unfoldable pub next_hex : Read → ℕ → Read
-next_hex Bad b = Bad
-next_hex (Number v) b = cond (ltb (hex_digit b) 16) (Number (16 * v + hex_digit b)) Bad
+unfoldable pub next_hex : Option ℕ → ℕ → Option ℕ
+next_hex None b = None
+next_hex (Some v) b = option_map (λ d. 16 * v + d) (hex_digit b)
 
-unfoldable pub hex16 : List ℕ → Read
-hex16 s = cond (eqb (length s) 16) (steps next_hex s (Number 0)) Bad
+unfoldable pub hex16 : List ℕ → Option ℕ
+hex16 s = cond (eqb (length s) 16) (steps next_hex s (Some 0)) None
 
-abbrev pub real_of : Read → Real
-real_of Bad = NotReal
-real_of (Number v) = Value (of_bits binary64 v)
-
-abbrev pub real : List ℕ → Real
-real s = real_of (hex16 s)
+abbrev pub real : List ℕ → Option Float
+real s = option_map (of_bits binary64) (hex16 s)
 
 -- ---- how numbers are spelled
 

@@ -6,69 +6,49 @@ ghost use Rattle.text.specs.Bytes.{index, before, after, begins, same};
 pub fn find(s: &[u8], c: u8) -> usize
     ensures { result ≡ index c s.now }
 {
-    let mut i = 0;
-    while i < s.len() {
-        if s[i] == c {
-            return i;
-        }
-        i += 1;
-    }
-    i
+    s.iter().position(|b| *b == c).unwrap_or(s.len())
 }
 
 // The part before the first c: all of s where there is none.
+#[tactic(auto, using(crate::proofs::PartLaws::index_within))]
 pub fn part_before(s: &[u8], c: u8) -> &[u8]
     ensures { result.now ≡ before c s.now }
 {
-    let n = find(s, c);
-    if n < s.len() { &s[..n] } else { s }
+    &s[..find(s, c)]
 }
 
 // The part after the first c: nothing where there is none.
+#[tactic(auto, using(crate::proofs::PartLaws::index_within))]
 pub fn part_after(s: &[u8], c: u8) -> &[u8]
     ensures { result.now ≡ after c s.now }
 {
-    let n = find(s, c);
-    if n < s.len() { &s[n + 1..] } else { &s[..0] }
+    part_from(s, find(s, c) + 1)
 }
 
 // The part from n on: nothing where n is past the end.
 pub fn part_from(s: &[u8], n: usize) -> &[u8]
     ensures { result.now ≡ drop n s.now }
 {
-    if n <= s.len() { &s[n..] } else { &s[..0] }
+    &s[n.min(s.len())..]
 }
 
 // The first n bytes: all of s where there are fewer.
 pub fn part_to(s: &[u8], n: usize) -> &[u8]
     ensures { result.now ≡ take n s.now }
 {
-    if n <= s.len() { &s[..n] } else { s }
+    &s[..n.min(s.len())]
 }
 
 // Whether s starts with the bytes of k.
 pub fn starts_with(s: &[u8], k: &[u8]) -> bool
     ensures { result ≡ begins k.now s.now }
 {
-    if s.len() < k.len() {
-        return false;
-    }
-    let mut i = 0;
-    while i < k.len() {
-        if s[i] != k[i] {
-            return false;
-        }
-        i += 1;
-    }
-    true
+    s.starts_with(k)
 }
 
 // Whether s is k.
 pub fn is_text(s: &[u8], k: &[u8]) -> bool
     ensures { result ≡ same k.now s.now }
 {
-    if s.len() != k.len() {
-        return false;
-    }
-    starts_with(s, k)
+    s == k
 }

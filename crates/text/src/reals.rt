@@ -2,54 +2,36 @@
 ghost use Rattle.std.specs.Prelude.{◌≡◌};
 ghost use Rattle.text.specs.Numerals.{hex_digit, hex16, real};
 
-use crate::{Read, Real};
 use numbers::bits::of_bits;
 
-// The value of a lowercase hexadecimal digit; 16 for any other byte.
-fn hex_digit(b: u8) -> usize
+// The value of a lowercase hexadecimal digit.
+fn hex_digit(b: u8) -> Option<usize>
     ensures { result ≡ hex_digit b }
 {
-    if b < 48 {
-        return 16;
+    match b {
+        b'0'..=b'9' => Some((b - b'0') as usize),
+        b'a'..=b'f' => Some((b - 87) as usize),
+        _ => None,
     }
-    if b <= 57 {
-        return (b - 48) as usize;
-    }
-    if b < 97 {
-        return 16;
-    }
-    if b <= 102 {
-        return (b - 87) as usize;
-    }
-    16
 }
 
 // The number that exactly 16 digits spell.
-pub fn read_hex(s: &[u8]) -> Read
+pub fn read_hex(s: &[u8]) -> Option<usize>
     ensures { result ≡ hex16 s.now }
 {
     if s.len() != 16 {
-        return Read::Bad;
+        return None;
     }
     let mut v: usize = 0;
-    let mut i = 0;
-    while i < s.len() {
-        let d = hex_digit(s[i]);
-        if 16 <= d {
-            return Read::Bad;
-        }
-        v = 16 * v + d;
-        i += 1;
+    for b in s {
+        v = 16 * v + hex_digit(*b)?;
     }
-    Read::Number(v)
+    Some(v)
 }
 
 // The binary64 number whose bits are written.
-pub fn read_real(s: &[u8]) -> Real
+pub fn read_real(s: &[u8]) -> Option<f64>
     ensures { result ≡ real s.now }
 {
-    match read_hex(s) {
-        Read::Number(v) => Real::Value(of_bits(v as u64)),
-        Read::Bad => Real::NotReal,
-    }
+    Some(of_bits(read_hex(s)? as u64))
 }

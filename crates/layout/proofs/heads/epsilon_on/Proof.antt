@@ -1,6 +1,0 @@
-use borrow.Author.Rules.{rules}
-use Rattle.layout.proofs.heads.epsilon_on.Statement.{statement}
-use Rattle.layout.proofs.heads.epsilon_on.Tie as tie
-
-pub epsilon_on_spec : {M : Type 1} → statement M
-epsilon_on_spec = tie.close (tie.spec (λ c κs. search rules) (λ c κs. search rules) (λ c κs. search rules) (λ c. cc))
