@@ -1,21 +1,19 @@
 -- One question after another: what refuses a sheet first. Assumes nothing.
-use mathlib.Core.Path.{◌≡◌, refl, sym, ap, ap₂, ◌∙◌}
-use Prim.Native.Nat.{ℕ, suc, ◌+◌, ◌*◌, ◌<◌, ◌≤◌}
-use native.Mathlib.Omega.{arith}
-use mathlib.Core.Bool.{Bool, true, false, cond, ◌&&◌}
+use mathlib.Core.Path.{◌≡◌, refl, sym, ap, ◌∙◌}
+use Prim.Native.Nat.{ℕ, suc, ◌+◌}
+use mathlib.Core.Bool.{Bool, true, false, cond}
 use mathlib.Core.List.{List, [], ◌∷◌}
-use lib.Dec.{leb}
-use borrow.Author.Tests.{leb-true}
-use Rattle.std.specs.Prelude.{Option, None, Some}
-use Rattle.terms.proofs.CaseLaws.{and_true}
+use Rattle.std.specs.Prelude.{Option, None, Some, Result, Err}
 use Rattle.ops.specs.declared.Op.{Op}
+use Rattle.ops.specs.Refusals.{number_of}
+use Rattle.questions.specs.declared.Refused.{Refused}
 use Rattle.lines.specs.TermLines.{TermLine}
 use Rattle.layout.specs.declared.Head.{Head}
 use Rattle.layout.specs.Layout.{term_lines, sheet_ops}
 use Rattle.questions.specs.declared.Asked.{Asked}
 use Rattle.questions.specs.declared.Asked.TheVariants.{Two, Three, Four, FiveAndSix, Eleven}
-use Rattle.questions.specs.Verdict.{Verdict, RefusedAt, Passed}
-use Rattle.questions.specs.Questions.{Question, question2, question_of, first_of, unless, ◌or_else◌, head_line, ops_line, line_of, refused_or, refused_by, first_fault, by_line}
+use Rattle.questions.specs.Verdict.{Verdict, RefusedAt, Passed, verdict_of}
+use Rattle.questions.specs.Questions.{Question, question_of, first_of, unless, ◌or_else◌, head_line, ops_line, line_of, refused_or, refused_by, first_fault, by_line}
 use Rattle.questions.specs.Asking.{number, number_unless, head_verdict, term_verdict, count_verdict, op_verdict, asked_verdict}
 
 -- ---- a step puts a question, and where it passes, the next
@@ -60,6 +58,10 @@ pass_on S e v = sym (S.next v ∙ ap (λ (x : Verdict). and_then x v) (sym e))
 -- it refuses
 pub stop_here : {F : Verdict → Verdict} → Step F → {n k : ℕ} → RefusedAt n k ≡ F Passed → (v : Verdict) → RefusedAt n k ≡ F v
 stop_here S e v = sym (S.next v ∙ ap (λ (x : Verdict). and_then x v) (sym e))
+
+-- what a `?` returns
+pub refused_is : (r : Result (Unit {0}) Refused) (x e : Refused) → r ≡ Err x → x ≡ e → verdict_of r ≡ RefusedAt (number_of e.by) e.line
+refused_is r x e f g = ap verdict_of f ∙ ap (λ (y : Refused). RefusedAt (number_of y.by) y.line) g
 
 -- ---- the steps of a question
 pub head_step : (a : Asked) (h : Head) → Step (head_verdict a h)
@@ -107,17 +109,12 @@ module _ (h : Head) (ls : List (List ℕ)) (v : Verdict) where
   two_is : asked_verdict Two h ls v ≡ refused_or 2 (line_of Two h ls) v
   two_is = asked_is 2 (question_of Two h) h.terms (term_lines h ls) (sheet_ops h ls) v
 
-  pub three_is : asked_verdict Three h ls v ≡ refused_or 3 (line_of Three h ls) v
-  three_is = asked_is 3 (question_of Three h) h.terms (term_lines h ls) (sheet_ops h ls) v
-
-  pub four_is : asked_verdict Four h ls v ≡ refused_or 4 (line_of Four h ls) v
-  four_is = asked_is 4 (question_of Four h) h.terms (term_lines h ls) (sheet_ops h ls) v
-
-  pub eleven_is : asked_verdict Eleven h ls v ≡ refused_or 11 (line_of Eleven h ls) v
-  eleven_is = asked_is 11 (question_of Eleven h) h.terms (term_lines h ls) (sheet_ops h ls) v
-
-  pub five_and_six_is : asked_verdict FiveAndSix h ls v ≡ by_line h ls v
-  five_and_six_is = refl
+  pub later_is : asked_verdict Three h ls (asked_verdict Four h ls (asked_verdict Eleven h ls (asked_verdict FiveAndSix h ls v)))
+      ≡ refused_or 3 (line_of Three h ls) (refused_or 4 (line_of Four h ls) (refused_or 11 (line_of Eleven h ls) (by_line h ls v)))
+  later_is =
+      ap (λ (x : Verdict). asked_verdict Three h ls (asked_verdict Four h ls x)) (asked_is 11 (question_of Eleven h) h.terms (term_lines h ls) (sheet_ops h ls) (by_line h ls v))
+      ∙ ap (asked_verdict Three h ls) (asked_is 4 (question_of Four h) h.terms (term_lines h ls) (sheet_ops h ls) (refused_or 11 (line_of Eleven h ls) (by_line h ls v)))
+      ∙ asked_is 3 (question_of Three h) h.terms (term_lines h ls) (sheet_ops h ls) (refused_or 4 (line_of Four h ls) (refused_or 11 (line_of Eleven h ls) (by_line h ls v)))
 
 -- ---- question 2 asks nothing of a `term` or an `op` line
 none_asked : {A : Type 0} (k : ℕ) (l : List A) (v : Verdict) → first_fault (λ a. None) k l v ≡ v
@@ -129,13 +126,3 @@ pub second_is : (h : Head) (ls : List (List ℕ)) (v : Verdict) → head_verdict
 second_is h ls v =
     ap (λ (x : Verdict). head_verdict Two h (count_verdict Two h x)) (sym (none_asked (8 + h.terms) (sheet_ops h ls) v))
     ∙ ap (head_verdict Two h) (sym (none_asked 7 (term_lines h ls) (count_verdict Two h (op_verdict Two h ls v)))) ∙ two_is h ls v
-
--- where it passes the head, there are at most 1,024 terms
-pub few_terms : (h : Head) → Passed ≡ head_verdict Two h Passed → h.terms ≤ 1024
-few_terms h e = go (question2 h).qubits (question2 h).limit (leb h.terms 1024) (leb h.terms h.limit) refl e
-  where
-    go : (a b c d : Bool) → leb h.terms 1024 ≡ c → Passed ≡ refused_or 2 (unless a 1 or_else unless true 3 or_else unless b 5 or_else unless (c && d) 6) Passed → h.terms ≤ 1024
-    go true true true d l g = leb-true _ _ l
-    go true true false d l g = absurd (cc)
-    go true false c d l g = absurd (cc)
-    go false b c d l g = absurd (cc)

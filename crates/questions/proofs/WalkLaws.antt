@@ -17,9 +17,9 @@ use Rattle.ops.specs.Task.{every}
 use Rattle.lines.specs.TermLines.{line_on, all_below, distinct}
 use Rattle.layout.specs.declared.Head.{Head}
 use Rattle.layout.specs.Cursor.{line_at, start_at}
-use Rattle.layout.specs.Layout.{question1, term_lines}
+use Rattle.layout.specs.Layout.{term_lines}
 use Rattle.layout.proofs.CursorLaws.{line_there}
-use Rattle.questions.specs.Verdict.{Verdict, RefusedAt, Passed}
+use Rattle.questions.specs.Verdict.{RefusedAt, Passed}
 use Rattle.questions.specs.Questions.{fault_of, refused_by, first_fault}
 
 -- ---- a walk that has passed i elements, the first of which stands at line k: none is refused
@@ -44,8 +44,8 @@ module _ {A : Type 0} {f : A → Option ℕ} {k i : ℕ} {l : List A} (W : Walke
   pub walked_more : (d : A) → i < length l → None ≡ f (get_or l i d) → Walked f k l (i + 1)
   walked_more d h e = record {
     rest =
-      ap (λ (j : ℕ). first_fault f (k + j) (drop j l) Passed) (add-one i) ∙ ap (λ (m : ℕ). first_fault f m (drop (suc i) l) Passed) (add-suc k i)
-      ∙ here d None h e;
+        ap (λ (j : ℕ). first_fault f (k + j) (drop j l) Passed) (add-one i) ∙ ap (λ (m : ℕ). first_fault f m (drop (suc i) l) Passed) (add-suc k i)
+        ∙ here d None h e;
   }
 
   pub walked_all : length l ≤ i → Passed ≡ first_fault f k l Passed

@@ -1,13 +1,13 @@
 -- Words of the private contracts: how the questions are asked.
-use Rattle.std.specs.Prelude.{◌≡◌, ℕ, ◌+◌, ◌≤◌, cond, List, Option, None, Some}
+use Rattle.std.specs.Prelude.{◌≡◌, ℕ, ◌+◌, ◌≤◌, Bool, cond, List, Option, None, Some}
 use Rattle.ops.specs.declared.Op.{Op}
 use Rattle.layout.specs.declared.Head.{Head}
 use Rattle.layout.specs.Layout.{question1, term_lines, sheet_ops}
 use Rattle.lines.specs.TermLines.{TermLine}
 use Rattle.questions.specs.declared.Asked.{Asked}
 use Rattle.questions.specs.declared.Asked.TheVariants.{Two, Three, Four, FiveAndSix, Eleven}
-use Rattle.questions.specs.Verdict.{Verdict, Passed}
-use Rattle.questions.specs.Questions.{question_of, unless, head_line, line_of, refused_or, term_fault, op_fault, first_fault, by_line, room_verdict}
+use Rattle.questions.specs.Verdict.{Verdict}
+use Rattle.questions.specs.Questions.{question_of, unless, head_line, refused_or, term_fault, op_fault, first_fault}
 
 -- what questions 3 to 7 may rely on: the sheet passes 1 and 2, and os is its op list
 pub record Sound (h : Head) (ls : List (List ℕ)) (os : List Op) : Type 0 where
@@ -61,13 +61,3 @@ op_verdict a h ls v = first_fault (op_number a h) (8 + h.terms) (sheet_ops h ls)
 
 abbrev pub asked_verdict : Asked → Head → List (List ℕ) → Verdict → Verdict
 asked_verdict a h ls v = head_verdict a h (term_verdict a h ls (count_verdict a h (op_verdict a h ls v)))
-
--- questions 1 and 2, and then 3 to 7
-abbrev pub early_verdict : Head → List (List ℕ) → Verdict
-early_verdict h ls = refused_or 1 (question1 h ls) (refused_or 2 (line_of Two h ls) Passed)
-
-abbrev pub later_verdict : Head → List (List ℕ) → ℕ → ℕ → Verdict
-later_verdict h ls rows places =
-    refused_or 3 (line_of Three h ls)
-    (refused_or 4 (line_of Four h ls)
-    (refused_or 11 (line_of Eleven h ls) (by_line h ls (room_verdict h rows places))))

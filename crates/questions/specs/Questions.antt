@@ -213,3 +213,13 @@ by_line h ls v = first_fault (term_fault h) 7 (term_lines h ls) (first_fault (op
 unfoldable pub verdict : Head → List (List ℕ) → ℕ → ℕ → Verdict
 unfolding first_fault
 verdict h ls rows places = by_question h ls (refused_or 11 (line_of Eleven h ls) (by_line h ls (room_verdict h rows places)))
+
+-- questions 1 and 2, and then the others
+abbrev pub early_verdict : Head → List (List ℕ) → Verdict
+early_verdict h ls = refused_or 1 (question1 h ls) (refused_or 2 (line_of Two h ls) Passed)
+
+abbrev pub later_verdict : Head → List (List ℕ) → ℕ → ℕ → Verdict
+later_verdict h ls rows places =
+    refused_or 3 (line_of Three h ls)
+    (refused_or 4 (line_of Four h ls)
+    (refused_or 11 (line_of Eleven h ls) (by_line h ls (room_verdict h rows places))))

@@ -31,7 +31,10 @@ fn ask_ops(asked: Asked, sheet: LaidOut<'_>) -> Result<(), Refused>
     let first = 8 + sheet.head.terms;
     for (i, op) in sheet.ops.iter().enumerate() {
         if let Some(by) = op_refusal(asked, sheet.head, *op) {
-            return Err(Refused { by, line: first + i });
+            return Err(Refused {
+                by,
+                line: first + i,
+            });
         }
     }
     Ok(())

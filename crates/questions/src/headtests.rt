@@ -24,7 +24,14 @@ fn count_fits(run: Run, terms: usize) -> bool
 pub(crate) fn ask_head(asked: Asked, head: Head) -> Result<(), Refused>
     ensures { verdict_of result ≡ head_verdict asked head Passed }
 {
-    let Head { qubits, run, epsilon, limit, terms, .. } = head;
+    let Head {
+        qubits,
+        run,
+        epsilon,
+        limit,
+        terms,
+        ..
+    } = head;
     match asked {
         Asked::Two => {
             Refused::unless(1 <= qubits && qubits <= 256, Refusal::Counts, 1)?;

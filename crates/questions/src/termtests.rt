@@ -20,6 +20,7 @@ fn weight_fits(run: Run, x: f64) -> bool
 }
 
 // What refuses a `term` line. Its factors are told apart by a set of 256 qubits: on a line that 5 does not refuse, all are below 256.
+#[tactic(auto, using(crate::proofs::WalkLaws::fault_by_set), unfolding(lines::specs::TermLines::line_on))]
 pub(crate) fn term_refusal(asked: Asked, head: Head, l: &[u8]) -> Option<Refusal>
     requires { head.qubits ≤ 256 }
     ensures { number_in result ≡ term_number asked head (line_on l.now) }

@@ -2,8 +2,7 @@
 ghost use Rattle.std.specs.Prelude.{◌≡◌, ◌≤◌};
 ghost use Rattle.text.specs.Bytes.{parts, newline};
 ghost use Rattle.questions.specs.Verdict.{verdict_of};
-ghost use Rattle.questions.specs.Questions.{places_fit, room_verdict};
-ghost use Rattle.questions.specs.Asking.{early_verdict, later_verdict};
+ghost use Rattle.questions.specs.Questions.{places_fit, room_verdict, early_verdict, later_verdict};
 
 use crate::asking::ask;
 use crate::headtests::{ask_count, ask_head};

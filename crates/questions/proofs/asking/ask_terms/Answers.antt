@@ -1,4 +1,4 @@
-use Rattle.std.proofs.Common.{ap, ◌∙◌, ◌+◌, arith, add_assoc}
+use Rattle.std.proofs.Common.{ap, ◌∙◌, arith, add_assoc}
 use Rattle.text.specs.Bytes.{parts, newline}
 use Rattle.layout.specs.Cursor.{start_at}
 use Rattle.layout.proofs.CursorLaws.{start_next}
@@ -21,8 +21,8 @@ loop-i-preserved c =
     record {
       place = start_next s 0 _ _ _ c.loop-i.invariant.place c.next_at-at.ensures ∙ ap (start_at s 0) (add_assoc 6 c.loop-i.i 1);
       walked =
-        walked_more c.loop-i.invariant.walked _ (omega (arith, term_lines_length h (parts newline s) c.args.sheet.laid))
-        (c.in_default.ensures ∙ ap (term_number c.args.asked h) (term_line h s c.loop-i.i c.loop-i.at _ c.loop-i-test.true c.loop-i.invariant.place c.line_at.ensures));
+          walked_more c.loop-i.invariant.walked _ (omega (arith, term_lines_length h (parts newline s) c.args.sheet.laid))
+          (c.in_default.ensures ∙ ap (term_number c.args.asked h) (term_line h s c.loop-i.i c.loop-i.at _ c.loop-i-test.true c.loop-i.invariant.place c.line_at.ensures));
     }
 
 pub returns : goal.returns
