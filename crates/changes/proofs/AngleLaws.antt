@@ -9,10 +9,10 @@ use borrow.Author.Tests.{eqb-false, lt-ltb}
 use Rattle.terms.proofs.CaseLaws.{and_true}
 use Rattle.layout.specs.declared.Head.{Head}
 use Rattle.layout.specs.Layout.{question1, term_lines, sheet_ops}
-use Rattle.sheet.specs.declared.Asked.TheVariants.{Two, Three, Four}
-use Rattle.sheet.specs.declared.Verdict.{Verdict}
-use Rattle.sheet.specs.declared.Verdict.TheVariants.{RefusedAt, Passed}
-use Rattle.sheet.specs.Questions.{question5, question6, question7, refused_or, line_of, fault_of, first_fault, by_line, room_verdict, verdict}
+use Rattle.questions.specs.declared.Asked.TheVariants.{Two, Three, Four}
+use Rattle.questions.specs.Verdict.{Verdict}
+use Rattle.questions.specs.Verdict.{RefusedAt, Passed}
+use Rattle.questions.specs.Questions.{question5, question6, question7, refused_or, line_of, fault_of, first_fault, by_line, room_verdict, verdict}
 use Rattle.changes.specs.NoAngle.{unasked, earlier, broken_line, no_angle, AnglesOnly}
 use Rattle.changes.proofs.ComparedLaws.{and_false, raised, RunsAlike, IsRaised, compared}
 

@@ -13,9 +13,9 @@ use Rattle.dynamics.specs.Turn.{Stage, refused, going, Outcome}
 use Rattle.layout.specs.declared.Head.{Head}
 use Rattle.layout.specs.Layout.{head_of, sheet_ops}
 use Rattle.replies.specs.Printed.{printed}
-use Rattle.sheet.specs.declared.Verdict.{Verdict}
-use Rattle.sheet.specs.declared.Verdict.TheVariants.{RefusedAt, Passed}
-use Rattle.sheet.specs.Questions.{verdict}
+use Rattle.questions.specs.Verdict.{Verdict}
+use Rattle.questions.specs.Verdict.{RefusedAt, Passed}
+use Rattle.questions.specs.Questions.{verdict}
 use Rattle.sheet.specs.Answer.{refusal, run_of, reply_run, reply_to, reply_of, means_to, printed_of, LeavesBy}
 use Rattle.sheet.specs.Screen.{bench}
 use Rattle.changes.specs.Compared.{Change, reply_before, printed_before, bench_before, is_moved, moved_to, Compared}

@@ -11,10 +11,10 @@ use borrow.Author.Tests.{eqb-true, ne_eqb, lt-ltb, le-ltb}
 use Rattle.lines.specs.TermLines.{line_on}
 use Rattle.layout.specs.declared.Head.{Head}
 use Rattle.layout.specs.Layout.{question1, term_lines, sheet_ops}
-use Rattle.sheet.specs.declared.Asked.TheVariants.{Two, Three, Four, Eleven}
-use Rattle.sheet.specs.declared.Verdict.{Verdict}
-use Rattle.sheet.specs.declared.Verdict.TheVariants.{RefusedAt, Passed}
-use Rattle.sheet.specs.Questions.{question5, question6, question7, ◌or_else◌, first_of, refused_or, line_of, by_question, fault_of, first_fault, by_line, room_verdict, verdict}
+use Rattle.questions.specs.declared.Asked.TheVariants.{Two, Three, Four, Eleven}
+use Rattle.questions.specs.Verdict.{Verdict}
+use Rattle.questions.specs.Verdict.{RefusedAt, Passed}
+use Rattle.questions.specs.Questions.{question5, question6, question7, ◌or_else◌, first_of, refused_or, line_of, by_question, fault_of, first_fault, by_line, room_verdict, verdict}
 use Rattle.changes.specs.TopLine.{outside_line, repeat_line, one_by_one, top_line, TopLineFirst}
 use Rattle.changes.proofs.ComparedLaws.{and_false, raised, RunsAlike, IsRaised, compared}
 

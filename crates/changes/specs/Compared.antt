@@ -8,7 +8,7 @@ use Rattle.layout.specs.declared.Head.{Head}
 use Rattle.layout.specs.Layout.{head_of}
 use Rattle.replies.specs.declared.Reply.{Reply}
 use Rattle.replies.specs.Printed.{printed}
-use Rattle.sheet.specs.declared.Verdict.{Verdict}
+use Rattle.questions.specs.Verdict.{Verdict}
 use Rattle.sheet.specs.Answer.{refusal, reply_to, reply_of, means_to, printed_of, LeavesBy, Untouched, Answered}
 use Rattle.sheet.specs.Screen.{bench}
 

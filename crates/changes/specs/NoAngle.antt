@@ -2,9 +2,9 @@
 -- change are those of sheets that pass 1 to 4 and have such an op; all others hold.
 use Rattle.std.specs.Prelude.{ℕ, Bool, not, ◌&&◌, List, leb, eqb, ltb}
 use Rattle.layout.specs.declared.Head.{Head}
-use Rattle.sheet.specs.declared.Asked.TheVariants.{Eleven}
-use Rattle.sheet.specs.declared.Verdict.{Verdict}
-use Rattle.sheet.specs.Questions.{line_of, by_question, by_line, room_verdict}
+use Rattle.questions.specs.declared.Asked.TheVariants.{Eleven}
+use Rattle.questions.specs.Verdict.{Verdict}
+use Rattle.questions.specs.Questions.{line_of, by_question, by_line, room_verdict}
 use Rattle.changes.specs.Compared.{Change, Compared}
 
 -- before: 5 and 6 after 4

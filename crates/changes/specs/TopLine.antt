@@ -3,9 +3,9 @@
 use Rattle.std.specs.Prelude.{ℕ, Bool, ◌&&◌, List, eqb, ltb}
 use Rattle.layout.specs.declared.Head.{Head}
 use Rattle.layout.specs.Layout.{term_lines, sheet_ops}
-use Rattle.sheet.specs.declared.Asked.TheVariants.{Eleven}
-use Rattle.sheet.specs.declared.Verdict.{Verdict}
-use Rattle.sheet.specs.Questions.{question5, question6, first_no, refused_or, line_of, by_question, room_verdict}
+use Rattle.questions.specs.declared.Asked.TheVariants.{Eleven}
+use Rattle.questions.specs.Verdict.{Verdict}
+use Rattle.questions.specs.Questions.{question5, question6, first_no, refused_or, line_of, by_question, room_verdict}
 use Rattle.changes.specs.Compared.{Change, Compared}
 
 -- the first line with a qubit outside, and the first with a repeat; 0 for none

@@ -3,11 +3,11 @@ use mathlib.Core.Path.{◌≡◌, refl, sym, ap, ap₂, ◌∙◌, subst}
 use mathlib.Core.Bool.{Bool, true, false, cond, ◌&&◌}
 use mathlib.Core.List.{List, [], ◌∷◌, ◌++◌, map, flatten, append_assoc, append-nil}
 use Prim.Native.Nat.{ℕ, zero, suc, ◌+◌, ◌-◌, ◌*◌, ◌/◌, ◌≤◌, ◌<◌, min, zero-le, suc-le-suc}
-use native.Mathlib.Nat.{le-div_iff_mul-le, le_of_suc-le-suc, not-suc-le-zero, suc-mul, zero-mul, add_comm, mul-le-mul_right}
+use native.Mathlib.Nat.{le-div_iff_mul-le, le_of_suc-le-suc, not-suc-le-zero, suc-mul, zero-mul, add-zero, add_assoc, add_comm, mul-le-mul_right}
 use native.Mathlib.Numerals.{add-one}
 use native.Mathlib.Omega.{arith}
-use borrow.Author.Tests.{lt-ltb, le-leb, lt-leb, leb-true}
-use lib.Dec.{ltb, leb}
+use borrow.Author.Tests.{le-leb, lt-leb, leb-true}
+use lib.Dec.{leb}
 use lib.ListN.{length, take, drop, get_or, set, replicate, length-append, length-drop, length-replicate, replicate-append-replicate, get_or-append}
 use lib.Seq.{drop-cons, append_snoc, set_at, get_or-drop, take_at, drop_at, drop-drop}
 use lib.Ieee.{Float, nan}
@@ -21,19 +21,16 @@ use Rattle.words.specs.Rows.{key_at}
 use Rattle.rows.specs.Rows.{put_key}
 use Rattle.rows.proofs.RowLaws.{row_before, drop_more, length_key}
 use Rattle.ops.specs.declared.Op.{Op}
-use Rattle.ops.specs.OpList as slices
-use Rattle.ops.specs.OpList.{parts_of, op_room, op_count, ops_in, codes_put, reals_put}
-use Rattle.ops.proofs.OpListLaws.{filled_none, filled_next, filled_all}
 use Rattle.ops.specs.LineTable as table
 use Rattle.lines.specs.OpLines.{op_on}
 use Rattle.lines.specs.TermLines.{weight_on, factors_on, line_on, placed, word_line}
 use Rattle.lines.proofs.WordLaws.{length_all}
 use Rattle.layout.specs.declared.Head.{Head}
-use Rattle.layout.specs.Cursor.{line_at, start_at}
+use Rattle.layout.specs.Cursor.{line_at, next_at, start_at}
 use Rattle.std.specs.Prelude.{None}
 use Rattle.layout.specs.Layout.{question1, term_lines, sheet_ops}
-use Rattle.layout.specs.Loaded.{op_line, codes_of, reals_of, codes_with, reals_with, OpsLoaded, row_with, keys_with, weights_with, holds_lines, LinesLoaded}
-use Rattle.layout.proofs.CursorLaws.{line_there, start_add}
+use Rattle.layout.specs.Loaded.{op_line, with_ops, row_with, keys_with, weights_with, holds_lines, LinesLoaded}
+use Rattle.layout.proofs.CursorLaws.{line_there, start_add, start_next}
 use Rattle.layout.proofs.LaidLaws.{laid_length}
 
 -- ---- a function of the lines from a number on
@@ -75,115 +72,30 @@ module _ {A : Type 0} where
 
 -- ---- the ops
 
--- the ops on the lines from a place on
-abbrev pub ops_from : List ℕ → ℕ → ℕ → Op
-ops_from s start j = op_on (line_at s (start_at s start j))
+-- a sheet's first ops, i of them, in a list that had os₀: the next line starts at `at`
+module _ (s : List ℕ) (h : Head) (os₀ : List Op) where
+  pub record Loading (i at : ℕ) (os : List Op) : Type 0 where
+    pub place : at ≡ start_at s 0 (7 + h.terms + i)
+    pub ops : os ≡ tab i (op_line h (parts newline s)) ++ drop i os₀
 
--- three places after a list, stored one by one
-put_three : {A : Type 0} (p : List A) (x y z a b c : A) (q : List A)
-    → set (set (set (p ++ (x ∷ y ∷ z ∷ q)) (length p) a) (suc (length p)) b) (suc (suc (length p))) c ≡ p ++ (a ∷ b ∷ c ∷ q)
-put_three [] x y z a b c q = refl
-put_three (e ∷ p) x y z a b c q = ap (λ (r : List _). e ∷ r) (put_three p x y z a b c q)
+pub loading_none : (s : List ℕ) (h : Head) (os : List Op) (a at : ℕ) → a ≡ start_at s 0 7 → at ≡ start_at s a h.terms → Loading s h os 0 at os
+unfolding tab
+loading_none s h os a at e f = record {
+  place = f ∙ ap (λ (p : ℕ). start_at s p h.terms) e ∙ start_add s 0 7 h.terms ∙ ap (start_at s 0) (sym (add-zero (7 + h.terms)));
+  ops = refl;
+}
 
--- one more row of three places
-put_row : {A : Type 0} (i : ℕ) (f : ℕ → List A) (l : List A) (a b c : A) → ((j : ℕ) → length (f j) ≡ 3) → f i ≡ a ∷ b ∷ c ∷ [] → 3 * i + 2 < length l
-    → set (set (set (flatten (tab i f) ++ drop (3 * i) l) (3 * i) a) (3 * i + 1) b) (3 * i + 2) c ≡ flatten (tab (suc i) f) ++ drop (3 * suc i) l
-put_row i f l a b c three e h =
-    let rows : List _ = flatten (tab i f) in
-    let k : ℕ = length rows in
-    let long : k ≡ 3 * i = flat_long 3 i f (λ j q. three j) ∙ omega arith in
-    let rest : drop (3 * i) l ≡ get_or l (3 * i) a ∷ get_or l (suc (3 * i)) a ∷ get_or l (suc (suc (3 * i))) a ∷ drop (suc (suc (suc (3 * i)))) l =
-    drop-cons l (3 * i) a (omega (arith, h))
-    ∙ ap (λ (r : List _). get_or l (3 * i) a ∷ r) (drop-cons l (suc (3 * i)) a (omega (arith, h))
-    ∙ ap (λ (r : List _). get_or l (suc (3 * i)) a ∷ r) (drop-cons l (suc (suc (3 * i))) a (omega (arith, h)))) in
-    let at : 3 * i ≡ k = sym long in
-    let at1 : 3 * i + 1 ≡ suc k = omega (arith, long) in
-    let at2 : 3 * i + 2 ≡ suc (suc k) = omega (arith, long) in
-    let next : suc (suc (suc (3 * i))) ≡ 3 * suc i = omega arith in
-    (λ t. set (set (set (rows ++ rest t) (at t) a) (at1 t) b) (at2 t) c)
-    ∙ put_three rows (get_or l (3 * i) a) (get_or l (suc (3 * i)) a) (get_or l (suc (suc (3 * i))) a) a b c (drop (suc (suc (suc (3 * i)))) l)
-    ∙ (λ t. rows ++ (sym e t ++ drop (next t) l))
-    ∙ sym (append_assoc rows (f i) (drop (3 * suc i) l))
-    ∙ ap (λ (r : List _). r ++ drop (3 * suc i) l) (sym (flat_snoc i f))
+pub loading_turn : {s : List ℕ} {h : Head} {os₀ os : List Op} {i at : ℕ} → Loading s h os₀ i at os → i < length os₀ → (l : List ℕ) (op : Op) (next : ℕ)
+    → l ≡ line_at s at → op ≡ op_on l → next ≡ next_at s at → Loading s h os₀ (i + 1) next (set os i op)
+loading_turn {s} {h} {os₀} {os} {i} {at} L room l op next el eo en = record {
+  place = start_next s 0 (7 + h.terms + i) at next L.place en ∙ ap (start_at s 0) (add_assoc (7 + h.terms) i 1);
+  ops =
+      tab_store (op_line h (parts newline s)) i os₀ room L.ops
+      (eo ∙ ap op_on (el ∙ ap (line_at s) L.place ∙ line_there s (7 + h.terms + i)));
+}
 
-rows_three : {A : Type 0} (i : ℕ) (f : ℕ → List A) (l : List A) → ((j : ℕ) → length (f j) ≡ 3) → 3 * i ≤ length l
-    → length (flatten (tab i f) ++ drop (3 * i) l) ≡ length l
-rows_three i f l three h =
-    length-append (flatten (tab i f)) (drop (3 * i) l) ∙ (λ t. flat_long 3 i f (λ j q. three j) t + length-drop (3 * i) l t) ∙ omega (arith, h)
-
-module _ (f : ℕ → Op) (cs₀ : List ℕ) (rs₀ : List Float) where
-  -- two slices with no op
-  pub codes_none : cs₀ ≡ codes_with 0 f cs₀
-  unfolding codes_with flatten tab
-  codes_none = refl
-
-  pub reals_none : rs₀ ≡ reals_with 0 f rs₀
-  unfolding reals_with flatten tab
-  reals_none = refl
-
-  module _ (i : ℕ) where
-    -- they are as long as they were
-    pub codes_long : {cs : List ℕ} → i ≤ op_room (length cs₀) (length rs₀) → cs ≡ codes_with i f cs₀ → length cs ≡ length cs₀
-    unfolding codes_with
-    codes_long h e = ap length e ∙ rows_three i (λ j. codes_of (f j)) cs₀ (λ j. refl) (omega (arith, h))
-
-    pub reals_long : {rs : List Float} → i ≤ op_room (length cs₀) (length rs₀) → rs ≡ reals_with i f rs₀ → length rs ≡ length rs₀
-    unfolding reals_with
-    reals_long h e = ap length e ∙ rows_three i (λ j. reals_of (f j)) rs₀ (λ j. refl) (omega (arith, h))
-
-    -- one more op
-    module _ (h : i < op_room (length cs₀) (length rs₀)) where
-      has : ltb i (op_room (length (codes_with i f cs₀)) (length (reals_with i f rs₀))) ≡ true
-      has =
-          let le : i ≤ op_room (length cs₀) (length rs₀) = omega (arith, h) in
-          lt-ltb _ _ (subst (λ (m : ℕ). i < m) (sym (ap₂ op_room (codes_long le refl) (reals_long le refl))) h)
-
-      codes_put_lem : codes_put (codes_with i f cs₀) (reals_with i f rs₀) i (f i) ≡ codes_with (suc i) f cs₀
-      unfolding codes_put codes_with
-      codes_put_lem =
-          let p = parts_of (f i) in
-          let cs = codes_with i f cs₀ in
-          ap (λ (b : Bool). cond b (set (set (set cs (3 * i) p.code) (3 * i + 1) p.a) (3 * i + 2) p.b) cs) has
-          ∙ put_row i (λ j. codes_of (f j)) cs₀ p.code p.a p.b (λ j. refl) refl (omega (arith, h))
-
-      reals_put_lem : reals_put (codes_with i f cs₀) (reals_with i f rs₀) i (f i) ≡ reals_with (suc i) f rs₀
-      unfolding reals_put reals_with
-      reals_put_lem =
-          let p = parts_of (f i) in
-          let rs = reals_with i f rs₀ in
-          ap (λ (b : Bool). cond b (set (set (set rs (3 * i) p.x) (3 * i + 1) p.y) (3 * i + 2) p.z) rs) has
-          ∙ put_row i (λ j. reals_of (f j)) rs₀ p.x p.y p.z (λ j. refl) refl (omega (arith, h))
-
-      module _ {cs : List ℕ} {rs : List Float} {op : Op} (ec : cs ≡ codes_with i f cs₀) (er : rs ≡ reals_with i f rs₀) (eo : op ≡ f i) where
-        pub codes_turn : {cs' : List ℕ} → cs' ≡ codes_put cs rs i op → cs' ≡ codes_with (i + 1) f cs₀
-        codes_turn e = e ∙ (λ t. codes_put (ec t) (er t) i (eo t)) ∙ codes_put_lem ∙ ap (λ (m : ℕ). codes_with m f cs₀) (sym (add-one i))
-
-        pub reals_turn : {rs' : List Float} → rs' ≡ reals_put cs rs i op → rs' ≡ reals_with (i + 1) f rs₀
-        reals_turn e = e ∙ (λ t. reals_put (ec t) (er t) i (eo t)) ∙ reals_put_lem ∙ ap (λ (m : ℕ). reals_with m f rs₀) (sym (add-one i))
-
-  -- the first n ops in the slices are read back
-  filled : (n : ℕ) → n ≤ op_room (length cs₀) (length rs₀) → take n (ops_in (codes_with n f cs₀) (reals_with n f rs₀)) ≡ tab n f
-  filled zero h = filled_none f (codes_with 0 f cs₀) (reals_with 0 f rs₀)
-  filled (suc n) h =
-      let cs = codes_with n f cs₀ in
-      let rs = reals_with n f rs₀ in
-      let le : n ≤ op_room (length cs₀) (length rs₀) = omega (arith, h) in
-      let lt : n < op_room (length cs) (length rs) = subst (λ (m : ℕ). n < m) (sym (ap₂ op_room (codes_long n le refl) (reals_long n le refl))) h in
-      subst (λ (m : ℕ). take m (ops_in (codes_with (suc n) f cs₀) (reals_with (suc n) f rs₀)) ≡ tab m f) (add-one n)
-      (filled_next f n (f n) cs (codes_with (suc n) f cs₀) rs (reals_with (suc n) f rs₀) lt refl (sym (codes_put_lem n h)) (sym (reals_put_lem n h)) (filled n le))
-
--- what `load_ops` leaves
-pub ops_end : (s : List ℕ) (h : Head) (a at n : ℕ) (cs cs' : List ℕ) (rs rs' : List Float) → a ≡ start_at s 0 7 → at ≡ start_at s a h.terms
-    → n ≡ op_count h.ops (length cs) (length rs) → cs' ≡ codes_with n (ops_from s at) cs → rs' ≡ reals_with n (ops_from s at) rs
-    → OpsLoaded h (parts newline s) cs cs' rs rs'
-ops_end s h a at n cs cs' rs rs' ea et en ec er =
-    let place : at ≡ start_at s 0 (7 + h.terms) = et ∙ ap (λ (p : ℕ). start_at s p h.terms) ea ∙ start_add s 0 7 h.terms in
-    let each : (j : ℕ) → ops_from s at j ≡ op_line h (parts newline s) j =
-    λ j. ap op_on (ap (λ (p : ℕ). line_at s (start_at s p j)) place ∙ ap (line_at s) (start_add s 0 (7 + h.terms) j) ∙ line_there s (7 + h.terms + j)) in
-    record {
-      codes = ec ∙ (λ t. codes_with (en t) (λ j. each j t) cs);
-      reals = er ∙ (λ t. reals_with (en t) (λ j. each j t) rs);
-    }
+pub loading_all : {s : List ℕ} {h : Head} {os₀ os : List Op} {i at : ℕ} → Loading s h os₀ i at os → i ≡ min h.ops (length os₀) → os ≡ with_ops h (parts newline s) os₀
+loading_all {s} {h} {os₀} {os} {i} {at} L e = L.ops ∙ ap (λ (n : ℕ). tab n (op_line h (parts newline s)) ++ drop n os₀) e
 
 -- ---- room for the rows of a table
 
@@ -318,28 +230,13 @@ module _ (w : ℕ) (h : Head) (ls : List (List ℕ)) (K : List ℕ) (W : List Fl
   no_keys few = loaded_by false (ap (λ (b : Bool). b && leb h.terms (length W)) few)
 
 -- ---- laws for the callers
-module _ (h : Head) (ls : List (List ℕ)) (cs cs' : List ℕ) (rs rs' : List Float) (L : OpsLoaded h ls cs cs' rs rs') where
-  abbrev count : ℕ
-  count = op_count h.ops (length cs) (length rs)
-
-  -- the slices keep their lengths
-  pub ops_codes_long : length cs' ≡ length cs
-  ops_codes_long = codes_long (op_line h ls) cs rs count (omega arith) L.codes
-
-  pub ops_reals_long : length rs' ≡ length rs
-  ops_reals_long = reals_long (op_line h ls) cs rs count (omega arith) L.reals
-
-  -- if both slices hold all ops, which are at most 4,096, and the sheet is laid out, then its op list is read from them
-  pub ops_loaded : 3 * h.ops ≤ length cs → 3 * h.ops ≤ length rs → h.ops ≤ 4096 → question1 h ls ≡ None → slices.op_list h.ops cs' rs' ≡ sheet_ops h ls
-  ops_loaded hc hr few laid =
-      let f : ℕ → Op = op_line h ls in
-      let all : count ≡ min h.ops 4096 = omega (arith, hc, hr, few) in
-      let each : min h.ops 4096 ≡ h.ops = omega (arith, few) in
-      let read : take count (ops_in cs' rs') ≡ tab count f =
-      ap₂ (λ (a : List ℕ) (b : List Float). take count (ops_in a b)) L.codes L.reals ∙ filled f cs rs count (omega arith) in
-      filled_all f h.ops count cs' rs' all read
-      ∙ ap (λ (m : ℕ). tab m f) each
-      ∙ tab_lines op_on ls (7 + h.terms) h.ops (omega (arith, laid_length h ls laid))
+-- if a list has places for all ops, and the sheet is laid out, then its op list is read from it
+pub ops_loaded : (h : Head) (ls : List (List ℕ)) (os : List Op) → h.ops ≤ length os → question1 h ls ≡ None → take h.ops (with_ops h ls os) ≡ sheet_ops h ls
+ops_loaded h ls os room laid =
+    let all : min h.ops (length os) ≡ h.ops = omega (arith, room) in
+    ap (λ (n : ℕ). take h.ops (tab n (op_line h ls) ++ drop n os)) all
+    ∙ take_at (tab h.ops (op_line h ls)) (drop h.ops os) h.ops (length_tab h.ops (op_line h ls))
+    ∙ tab_lines op_on ls (7 + h.terms) h.ops (omega (arith, laid_length h ls laid))
 
 module _ (w : ℕ) (h : Head) (ls : List (List ℕ)) (K K' : List ℕ) (W W' : List Float) (L : LinesLoaded w h ls K K' W W') where
   test : holds_lines w h.terms K W ≡ true → (h.terms * (2 * w) ≤ length K) × (h.terms ≤ length W)

@@ -1,12 +1,11 @@
--- What the loads leave: the ops of a sheet in two slices, and its `term` lines in a table. This is defined for every list of lines, laid out
+-- What the loads leave: the ops of a sheet in a list, and its `term` lines in a table. This is defined for every list of lines, laid out
 -- or not: a line that is not there is an empty line.
-use Rattle.std.specs.Prelude.{◌≡◌, ℕ, ◌+◌, ◌*◌, Bool, cond, ◌&&◌, leb, length, drop, get_or, Float}
-use mathlib.Core.List.{List, [], ◌∷◌, ◌++◌, flatten}
+use Rattle.std.specs.Prelude.{◌≡◌, ℕ, ◌+◌, ◌*◌, Bool, cond, ◌&&◌, leb, min, length, drop, get_or, Float}
+use mathlib.Core.List.{List, [], ◌++◌, flatten}
 use Rattle.words.specs.Keys.{Key}
 use Rattle.terms.specs.Lists.{tab, foldl}
 use Rattle.words.specs.Rows.{key_at}
 use Rattle.ops.specs.declared.Op.{Op}
-use Rattle.ops.specs.OpList.{parts_of, op_count}
 use Rattle.lines.specs.OpLines.{op_on}
 use Rattle.lines.specs.TermLines.{weight_on, factors_on, placed}
 use Rattle.layout.specs.declared.Head.{Head}
@@ -17,25 +16,9 @@ use Rattle.layout.specs.declared.Head.{Head}
 abbrev pub op_line : Head → List (List ℕ) → ℕ → Op
 op_line h ls j = op_on (get_or ls (7 + h.terms + j) [])
 
--- the three numbers of an op, and its three reals
-abbrev pub codes_of : Op → List ℕ
-codes_of op = let p = parts_of op in p.code ∷ p.a ∷ p.b ∷ []
-
-abbrev pub reals_of : Op → List Float
-reals_of op = let p = parts_of op in p.x ∷ p.y ∷ p.z ∷ []
-
--- two slices with the n ops f 0, f 1, ..: the numbers of the ops in order, and behind them those that stood there; the reals likewise
-unfoldable pub codes_with : ℕ → (ℕ → Op) → List ℕ → List ℕ
-codes_with n f codes = flatten (tab n (λ j. codes_of (f j))) ++ drop (3 * n) codes
-
-unfoldable pub reals_with : ℕ → (ℕ → Op) → List Float → List Float
-reals_with n f reals = flatten (tab n (λ j. reals_of (f j))) ++ drop (3 * n) reals
-
--- The two slices of an op list, before (cs, rs) and after (cs', rs'): the first ops of a sheet are in them, at most 4,096 and as many as both
--- hold whole.
-pub record OpsLoaded (h : Head) (ls : List (List ℕ)) (cs cs' : List ℕ) (rs rs' : List Float) : Type 0 where
-  pub codes : cs' ≡ codes_with (op_count h.ops (length cs) (length rs)) (op_line h ls) cs
-  pub reals : rs' ≡ reals_with (op_count h.ops (length cs) (length rs)) (op_line h ls) rs
+-- a list with the first ops of a sheet in its first places, as many as it has, and behind them those that stood there
+abbrev pub with_ops : Head → List (List ℕ) → List Op → List Op
+with_ops h ls os = let n = min h.ops (length os) in tab n (op_line h ls) ++ drop n os
 
 -- ---- the `term` lines
 

@@ -1,47 +1,28 @@
-// The op list of a sheet in two slices, and its `term` lines as a table.
+// The op list of a sheet in a slice, and its `term` lines as a table.
 ghost use Rattle.std.specs.Prelude.{◌≡◌, ◌+◌, ◌*◌, ◌≤◌, ◌<◌, leb, length, set};
 ghost use Rattle.text.specs.Bytes.{parts, newline};
 ghost use Rattle.terms.specs.Lists.{foldl};
 ghost use Rattle.words.specs.Rows.{key_at};
 ghost use Rattle.rows.specs.Rows.{put_key};
-ghost use Rattle.ops.specs.OpList.{op_room};
-ghost use Rattle.lines.specs.OpLines.{op_on};
 ghost use Rattle.lines.specs.TermLines.{weight_on, factors_on, placed};
-ghost use Rattle.layout.specs.Cursor.{line_at, start_at};
-ghost use Rattle.layout.specs.Loaded.{codes_with, reals_with, OpsLoaded, keys_with, weights_with, LinesLoaded};
+ghost use Rattle.layout.specs.Loaded.{with_ops, keys_with, weights_with, LinesLoaded};
 
 use crate::Head;
 use crate::cursor::{line_at, next_at, start_at};
 use lines::oplines::op_on;
 use lines::termlines::{place_factors, weight_on};
-use ops::oplist::{op_count, put_op};
+use ops::Op;
 use words::rows::rows_of;
 
-// Writes the ops on the n lines from a place on to the first n places of two slices.
-fn fill_ops(s: &[u8], start: usize, n: usize, codes: &mut [usize], reals: &mut [f64])
-    requires { n ≤ op_room (length codes.old) (length reals.old) }
-    ensures { (codes.new ≡ codes_with n (λ j. op_on (line_at s.now (start_at s.now start j))) codes.old)
-        × (reals.new ≡ reals_with n (λ j. op_on (line_at s.now (start_at s.now start j))) reals.old) }
+// Writes the ops of a sheet to the first places of a slice, as many as there are ops and places.
+pub fn load_ops(s: &[u8], head: Head, ops: &mut [Op])
+    ensures { ops.new ≡ with_ops head (parts newline s.now) ops.old }
 {
-    let mut at = start;
-    let mut i = 0;
-    while i < n {
-        let op = op_on(line_at(s, at));
-        put_op(codes, reals, i, op);
+    let mut at = start_at(s, start_at(s, 0, 7), head.terms);
+    for i in 0..head.ops.min(ops.len()) {
+        ops[i] = op_on(line_at(s, at));
         at = next_at(s, at);
-        i += 1;
     }
-}
-
-// Writes the first ops of a sheet to two slices, at most 4,096 and as many as both hold: three numbers and three reals to an op.
-pub fn load_ops(s: &[u8], head: Head, codes: &mut [usize], reals: &mut [f64])
-    ensures { OpsLoaded head (parts newline s.now) codes.old codes.new reals.old reals.new }
-{
-    let terms = head.terms;
-    let ops = head.ops;
-    let at = start_at(s, start_at(s, 0, 7), terms);
-    let n = op_count(ops, codes.len(), reals.len());
-    fill_ops(s, at, n, codes, reals);
 }
 
 // Writes a `term` line to line i of a table: the factors set their bits, and the weight is stored.
@@ -64,12 +45,9 @@ fn fill_lines(s: &[u8], n: usize, w: usize, keys: &mut [u64], weights: &mut [f64
         × (weights.new ≡ weights_with n (parts newline s.now) weights.old) }
 {
     let mut at = start_at(s, 0, 6);
-    let mut i = 0;
-    while i < n {
-        let l = line_at(s, at);
-        fill_line(l, w, i, keys, weights);
+    for i in 0..n {
+        fill_line(line_at(s, at), w, i, keys, weights);
         at = next_at(s, at);
-        i += 1;
     }
 }
 
@@ -77,10 +55,7 @@ fn fill_lines(s: &[u8], n: usize, w: usize, keys: &mut [u64], weights: &mut [f64
 fn holds_rows(len: usize, w: usize, n: usize) -> bool
     ensures { result ≡ leb (n * (2 * w)) len }
 {
-    if w == 0 {
-        return true;
-    }
-    n <= rows_of(len, w)
+    w == 0 || n <= rows_of(len, w)
 }
 
 // Writes the `term` lines of a sheet to a table: the factors of term line i set their bits in the 2 * w words from i * 2 * w on, which are
@@ -89,11 +64,7 @@ pub fn load_lines(s: &[u8], head: Head, w: usize, keys: &mut [u64], weights: &mu
     ensures { LinesLoaded w head (parts newline s.now) keys.old keys.new weights.old weights.new }
 {
     let n = head.terms;
-    if weights.len() < n {
-        return;
+    if n <= weights.len() && holds_rows(keys.len(), w, n) {
+        fill_lines(s, n, w, keys, weights);
     }
-    if !holds_rows(keys.len(), w, n) {
-        return;
-    }
-    fill_lines(s, n, w, keys, weights);
 }

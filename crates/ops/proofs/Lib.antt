@@ -1,6 +1,6 @@
--- Laws of op lists, targets and marks.
-pub mod OpListLaws
+-- Laws of targets and marks.
 pub mod TargetLaws
 pub mod SizeLaws
 pub mod MarkLaws
 pub mod CoverLaws
+pub mod BinaryLaws

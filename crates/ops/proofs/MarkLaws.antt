@@ -1,20 +1,19 @@
 -- Laws of marks set from the last op to the first, and that the code's inverse light cone is the specification's. Assumes nothing.
 use mathlib.Core.Path.{◌≡◌, refl, sym, ap, ap₂, ◌∙◌}
-use mathlib.Core.Bool.{Bool, true, false, not, ◌||◌, ◌&&◌, cond}
+use mathlib.Core.Bool.{Bool, true, false, not, ◌||◌, cond}
 use mathlib.Core.List.{List, [], ◌∷◌, ◌++◌}
-use Prim.Native.Nat.{ℕ, zero, suc, ◌+◌, ◌-◌, ◌*◌, ◌/◌, ◌≤◌, ◌<◌}
+use Prim.Native.Nat.{ℕ, zero, min, suc, ◌+◌, ◌-◌, ◌*◌, ◌≤◌, ◌<◌}
 use native.Mathlib.Omega.{arith}
 use native.Mathlib.Nat.{zero-add, le_of_suc-le-suc, not-suc-le-zero}
 use native.Mathlib.Numerals.{add-one}
-use borrow.Author.Tests.{eqb-true, eqb-false, lt-ltb, le-ltb}
+use borrow.Author.Tests.{eqb-true, eqb-false}
 use lib.Dec.{eqb}
-use lib.ListN.{length, get_or, set, take, drop, length-set, drop_of_length-le, replicate}
-use lib.Seq.{drop-cons, take-suc-set, take_all, get_or-set_same, get_or-set_other, drop-length}
-use Rattle.words.specs.declared.Gate.{Gate}
+use lib.ListN.{length, get_or, set, take, drop, length-set, length-take, replicate}
+use lib.Seq.{drop-cons, take_all, get_or-set_same, get_or-set_other, drop-length}
 use Rattle.words.specs.Gates.{has_two_targets}
-use Rattle.words.specs.Keys.{Key, bit_at, has_letter}
+use Rattle.words.specs.Keys.{Key}
 use Rattle.terms.specs.Lists.{tab, All}
-use Rattle.terms.proofs.ListLaws.{length_tab, get_d_tab, tab_snoc}
+use Rattle.terms.proofs.ListLaws.{length_tab, get_d_tab}
 use Rattle.ops.specs.declared.Op.{Op}
 use Rattle.ops.specs.declared.Op.TheVariants.{Native, T, Tdg, Rz, P, Rzz, Pauli, Depol, Damp, Phase, Thermal, Depol2, Barrier}
 use Rattle.ops.specs.declared.marks.Targets.{Targets}
@@ -22,7 +21,8 @@ use Rattle.ops.specs.declared.marks.Targets.TheVariants as H
 use Rattle.ops.specs.Ops.{shape_of, targets, is_rotation, is_barrier, t_count}
 use Rattle.ops.specs.Marks.{mark_all, mark_path, member, touches, cone_of, mark_cone}
 use Rattle.ops.specs.Sets.{TargetsBelow, overlay, packed, list_of, meets_set, join_set, grown_by, cone_set, set_marks, letter_in, letters_in, letter_in_any, letters_in_any}
-use Rattle.words.specs.Rows.{key_at}
+use Rattle.std.specs.List.{count_by}
+use Rattle.std.proofs.lemmas.List.Recursion.{is_count_by}
 
 pub get_d_past : {A : Type 0} (l : List A) (i : ℕ) (d : A) → length l ≤ i → get_or l i d ≡ d
 get_d_past [] i d h = refl
@@ -30,23 +30,58 @@ get_d_past (x ∷ l) zero d h = absurd (not-suc-le-zero h)
 get_d_past (x ∷ l) (suc i) d h = get_d_past l i d (le_of_suc-le-suc h)
 
 -- ---- the t count
-pub one_fits : (b : Bool) (v : ℕ) → v ≡ cond b 1 0 → v ≤ 1
-one_fits true v e = omega arith
-one_fits false v e = omega arith
-
--- one turn of the count from the first op to the last
-pub count_turn : (ops : List Op) (i c v total : ℕ) (b : Bool) (d op : Op) → i < length ops → op ≡ get_or ops i d → b ≡ is_rotation (shape_of op).sort → v ≡ cond b 1 0
-    → c + t_count (drop i ops) ≡ total → c + v + t_count (drop (i + 1) ops) ≡ total
+pub rotations_counted : (ops : List Op) → t_count ops ≡ count_by (λ (op : Op). is_rotation (shape_of op).sort) ops
 unfolding t_count
-count_turn ops i c v total b d op h eo eb ev e =
-    let s : t_count (drop i ops) ≡ v + t_count (drop (i + 1) ops)
-    = ap t_count (drop-cons ops i d h)
-    ∙ ap₂ ◌+◌ (sym (ev ∙ ap (λ (r : Bool). cond r 1 0) (eb ∙ ap (λ (o : Op). is_rotation (shape_of o).sort) eo))) (ap (λ (k : ℕ). t_count (drop k ops)) (sym (add-one i)))
-    in omega arith
+rotations_counted ops = is_count_by t_count (λ (op : Op). is_rotation (shape_of op).sort) refl (λ op rest. one (is_rotation (shape_of op).sort) (t_count rest)) ops
+  where
+    one : (b : Bool) (n : ℕ) → cond b 1 0 + n ≡ cond b (1 + n) n
+    one true n = refl
+    one false n = zero-add n
 
-pub count_all : (ops : List Op) (i c total : ℕ) → length ops ≤ i → c + t_count (drop i ops) ≡ total → c ≡ total
-unfolding t_count
-count_all ops i c total h e = let z : t_count (drop i ops) ≡ 0 = ap t_count (drop_of_length-le ops h) in omega arith
+-- ---- marks set from the first to the last
+-- the first i of the marks ms, written over a list, and one more
+over_suc : (ms l : List Bool) (i : ℕ) → i < length ms → overlay (take (suc i) ms) l ≡ set (overlay (take i ms) l) i (get_or ms i false)
+unfolding overlay
+over_suc [] l i h = absurd (not-suc-le-zero h)
+over_suc (m ∷ ms) [] zero h = refl
+over_suc (m ∷ ms) (x ∷ l) zero h = refl
+over_suc (m ∷ ms) [] (suc i) h = refl
+over_suc (m ∷ ms) (x ∷ l) (suc i) h = ap (λ (r : List Bool). m ∷ r) (over_suc ms l i (le_of_suc-le-suc h))
+
+pub over_more : (ms l : List Bool) (i : ℕ) → i < length ms → overlay (take (i + 1) ms) l ≡ set (overlay (take i ms) l) i (get_or ms i false)
+over_more ms l i h = ap (λ (n : ℕ). overlay (take n ms) l) (add-one i) ∙ over_suc ms l i h
+
+pub over_none : (ms l : List Bool) → l ≡ overlay (take 0 ms) l
+unfolding overlay
+over_none ms l = refl
+
+-- as far as both go
+pub over_all : (ms l : List Bool) (i : ℕ) → min (length ms) (length l) ≤ i → overlay (take i ms) l ≡ overlay ms l
+unfolding overlay
+over_all [] l zero h = refl
+over_all [] l (suc i) h = refl
+over_all (m ∷ ms) [] zero h = refl
+over_all (m ∷ ms) [] (suc i) h = refl
+over_all (m ∷ ms) (x ∷ l) zero h = absurd (omega arith)
+over_all (m ∷ ms) (x ∷ l) (suc i) h = ap (λ (r : List Bool). m ∷ r) (over_all ms l i (omega arith))
+
+-- as many marks that are set as there are ops, before those that have no op
+set_over : (ops : List Op) (l front : List Bool) → length front ≡ min (length ops) (length l) → ((k : ℕ) → k < length front → get_or front k false ≡ true)
+    → front ++ drop (length front) l ≡ overlay (mark_all ops) l
+unfolding overlay
+set_over [] l [] e all = refl
+set_over [] l (x ∷ front) e all = absurd (omega arith)
+set_over (op ∷ ops) [] [] e all = refl
+set_over (op ∷ ops) [] (x ∷ front) e all = absurd (omega arith)
+set_over (op ∷ ops) (y ∷ l) [] e all = absurd (omega arith)
+set_over (op ∷ ops) (y ∷ l) (x ∷ front) e all = λ k. all zero (omega arith) k ∷ set_over ops l front (omega arith) (λ i h. all (suc i) (omega arith)) k
+
+pub all_over : (ops : List Op) (l front : List Bool) (n : ℕ) → n ≡ min (length ops) (length l) → length front ≡ length (take n l)
+    → ((k : ℕ) → k < length (take n l) → get_or front k false ≡ true) → front ++ drop n l ≡ overlay (mark_all ops) l
+all_over ops l front n e long all =
+    let t : length (take n l) ≡ min n (length l) = length-take n l in
+    let m : n ≡ length front = omega arith in
+    ap (λ (k : ℕ). front ++ drop k l) m ∙ set_over ops l front (omega arith) (λ k h. all k (omega arith))
 
 -- ---- marks set from the last to the first
 overlay_at : (ms l : List Bool) (j : ℕ) → j < length ms → overlay (take j ms) (set l j (get_or ms j false)) ≡ overlay (take (suc j) ms) l
@@ -83,89 +118,76 @@ marked_all {ms} {i} {marks₀} {marks} M h =
     let z : i ≡ 0 = omega arith in
     ap (λ (k : ℕ). overlay (take k ms) marks) (sym z) ∙ M.over
 
-pub all_marks : (ops : List Op) → replicate (length ops) true ≡ mark_all ops
-all_marks [] = refl
-all_marks (op ∷ ops) = ap (λ (l : List Bool). true ∷ l) (all_marks ops)
-
 pub path_long : (ops : List Op) → length (mark_path ops) ≡ length ops
 path_long [] = refl
 path_long (op ∷ ops) = ap suc (path_long ops)
 
-pub path_at : (ops : List Op) (j : ℕ) (d op : Op) (m : Bool) → j < length ops → op ≡ get_or ops j d → m ≡ not (is_barrier (shape_of op).sort) → m ≡ get_or (mark_path ops) j false
-path_at [] j d op m h eo em = absurd (not-suc-le-zero h)
-path_at (o ∷ ops) zero d op m h eo em = em ∙ ap (λ (x : Op). not (is_barrier (shape_of x).sort)) eo
-path_at (o ∷ ops) (suc j) d op m h eo em = path_at ops j d op m (le_of_suc-le-suc h) eo em
+pub path_at : (ops : List Op) (i : ℕ) (d : Op) → i < length ops → get_or (mark_path ops) i false ≡ not (is_barrier (shape_of (get_or ops i d)).sort)
+path_at [] i d h = absurd (not-suc-le-zero h)
+path_at (o ∷ ops) zero d h = refl
+path_at (o ∷ ops) (suc i) d h = path_at ops i d (le_of_suc-le-suc h)
 
--- ---- the set of qubits: one answer for each number of targets
-pub native_targets : (op : Op) (g : Gate) (a b : ℕ) (two : Bool) (r : Targets) → op ≡ Native g a b → two ≡ has_two_targets g → r ≡ packed (cond two (a ∷ b ∷ []) (a ∷ []))
-    → r ≡ packed (targets op)
-native_targets op g a b two r eo et er = er ∙ ap (λ (x : Bool). packed (cond x (a ∷ b ∷ []) (a ∷ []))) et ∙ ap (λ (o : Op). packed (targets o)) (sym eo)
+-- ---- the set of qubits
 
 or_false : (b : Bool) → (b || false) ≡ b
 or_false true = refl
 or_false false = refl
 
-pub meets_none : (t : Targets) (s : List Bool) → t ≡ H.Nothing → false ≡ meets_set (list_of t) s
+pub meets_none : (s : List Bool) → meets_set (list_of H.Nothing) s ≡ false
 unfolding meets_set
-meets_none t s e = ap (λ (x : Targets). meets_set (list_of x) s) (sym e)
+meets_none s = refl
 
-pub meets_one : (t : Targets) (s : List Bool) (a : ℕ) {r : Bool} → t ≡ H.One a → r ≡ get_or s a false → r ≡ meets_set (list_of t) s
+pub meets_one : (s : List Bool) (a : ℕ) → meets_set (list_of (H.One a)) s ≡ get_or s a false
 unfolding meets_set
-meets_one t s a e h = h ∙ sym (or_false (get_or s a false)) ∙ ap (λ (x : Targets). meets_set (list_of x) s) (sym e)
+meets_one s a = or_false (get_or s a false)
 
-pub meets_two : (t : Targets) (s : List Bool) (a b : ℕ) {x y r : Bool} → t ≡ H.Two a b → x ≡ get_or s a false → y ≡ get_or s b false → r ≡ (x || y) → r ≡ meets_set (list_of t) s
+pub meets_two : (s : List Bool) (a b : ℕ) → meets_set (list_of (H.Two a b)) s ≡ (get_or s a false || get_or s b false)
 unfolding meets_set
-meets_two t s a b e hx hy h =
-    h ∙ ap₂ ◌||◌ hx (hy ∙ sym (or_false (get_or s b false))) ∙ ap (λ (z : Targets). meets_set (list_of z) s) (sym e)
+meets_two s a b = ap (λ (x : Bool). get_or s a false || x) (or_false (get_or s b false))
 
-pub join_none : (t : Targets) (s : List Bool) → t ≡ H.Nothing → s ≡ join_set (list_of t) s
-unfolding join_set
-join_none t s e = ap (λ (x : Targets). join_set (list_of x) s) (sym e)
-
-pub join_one : (t : Targets) (s : List Bool) (a : ℕ) {r : List Bool} → t ≡ H.One a → r ≡ set s a true → r ≡ join_set (list_of t) s
-unfolding join_set
-join_one t s a e h = h ∙ ap (λ (x : Targets). join_set (list_of x) s) (sym e)
-
-pub join_two : (t : Targets) (s : List Bool) (a b : ℕ) {u r : List Bool} → t ≡ H.Two a b → u ≡ set s b true → r ≡ set u a true → r ≡ join_set (list_of t) s
-unfolding join_set
-join_two t s a b e hu h = h ∙ ap (λ (l : List Bool). set l a true) hu ∙ ap (λ (x : Targets). join_set (list_of x) s) (sym e)
-
-pub grown_yes : (qs : List ℕ) (s : List Bool) {b : Bool} {r : List Bool} → b ≡ meets_set qs s → b ≡ true → r ≡ join_set qs s → r ≡ grown_by qs s
+pub grown_yes : (qs : List ℕ) (s : List Bool) → meets_set qs s ≡ true → grown_by qs s ≡ join_set qs s
 unfolding grown_by
-grown_yes qs s eb et e = e ∙ ap (λ (x : Bool). cond x (join_set qs s) s) (sym et ∙ eb)
+grown_yes qs s e = ap (λ (x : Bool). cond x (join_set qs s) s) e
 
-pub grown_no : (qs : List ℕ) (s : List Bool) {b : Bool} → b ≡ meets_set qs s → b ≡ false → s ≡ grown_by qs s
+pub grown_no : (qs : List ℕ) (s : List Bool) → meets_set qs s ≡ false → grown_by qs s ≡ s
 unfolding grown_by
-grown_no qs s eb ef = ap (λ (x : Bool). cond x (join_set qs s) s) (sym ef ∙ eb)
+grown_no qs s e = ap (λ (x : Bool). cond x (join_set qs s) s) e
 
--- ---- the qubits at which a word has a letter
-pub letter_yes : (w : ℕ) (k : Key) (q : ℕ) {x z r : Bool} → q / 64 < w → x ≡ bit_at k (0 + q) → z ≡ bit_at k (64 * w + q) → r ≡ (x || z) → r ≡ letter_in w k q
-letter_yes w k q h ex ez e = e ∙ ap₂ ◌||◌ (ex ∙ ap (bit_at k) (zero-add q)) ez ∙ ap (λ (b : Bool). b && has_letter w k q) (sym (lt-ltb q (64 * w) (omega arith)))
+no_letter : (n q : ℕ) → get_or (replicate n false) q false ≡ false
+no_letter zero q = refl
+no_letter (suc n) zero = refl
+no_letter (suc n) (suc q) = no_letter n q
 
-pub letter_no : (w : ℕ) (k : Key) (q : ℕ) → w ≤ q / 64 → false ≡ letter_in w k q
-letter_no w k q h = ap (λ (b : Bool). b && has_letter w k q) (sym (le-ltb q (64 * w) (omega arith)))
+list_tab : (s : List Bool) (f : ℕ → Bool) (n : ℕ) → length s ≡ n → ((q : ℕ) → q < n → get_or s q false ≡ f q) → s ≡ tab n f
+unfolding tab
+list_tab [] f zero long same = refl
+list_tab [] f (suc n) long same = absurd (omega arith)
+list_tab (x ∷ s) f zero long same = absurd (omega arith)
+list_tab (x ∷ s) f (suc n) long same = λ k. same zero (omega arith) k ∷ list_tab s (λ i. f (suc i)) n (omega arith) (λ q h. same (suc q) (omega arith)) k
 
--- a table filled from a function of the index
-pub table_turn : (f : ℕ → Bool) (i : ℕ) (l : List Bool) (v : Bool) → i < length l → take i l ≡ tab i f → v ≡ f i → take (i + 1) (set l i v) ≡ tab (i + 1) f
-table_turn f i l v h e ev =
-    ap (λ (n : ℕ). take n (set l i v)) (add-one i) ∙ take-suc-set l i v h ∙ (λ z. e z ++ (ev z ∷ [])) ∙ sym (tab_snoc i f) ∙ ap (λ (n : ℕ). tab n f) (sym (add-one i))
+-- a set of 256 qubits by its members
+letters_of : (f : ℕ → Bool) (s : List Bool) → length s ≡ 256 → ((q : ℕ) → q < 256 → get_or s q false ≡ f q) → s ≡ tab 256 f
+letters_of f s long same = list_tab s f 256 long same
 
-pub letters_filled : (w : ℕ) (k : Key) (i : ℕ) (l : List Bool) → length l ≡ 256 → 256 ≤ i → i ≤ 256 → take i l ≡ tab i (letter_in w k) → l ≡ letters_in w k
+pub letters_word : (w : ℕ) (k : Key) (s : List Bool) → length s ≡ 256 → ((q : ℕ) → q < 256 → get_or s q false ≡ (get_or (replicate 256 false) q false || letter_in w k q)) → s ≡ letters_in w k
 unfolding letters_in
-letters_filled w k i l h p q e =
-    let z : i ≡ 256 = omega arith in
-    sym (take_all i l (omega arith)) ∙ e ∙ ap (λ (n : ℕ). tab n (letter_in w k)) z
+letters_word w k s long same = letters_of (letter_in w k) s long (λ q h. same q h ∙ ap (λ (b : Bool). b || letter_in w k q) (no_letter 256 q))
 
-pub letters_filled_any : (w : ℕ) (keys : List ℕ) (n i : ℕ) (l : List Bool) → length l ≡ 256 → 256 ≤ i → i ≤ 256 → take i l ≡ tab i (letter_in_any w keys n) → l ≡ letters_in_any w keys n
-unfolding letters_in_any
-letters_filled_any w keys n i l h p q e =
-    let z : i ≡ 256 = omega arith in
-    sym (take_all i l (omega arith)) ∙ e ∙ ap (λ (m : ℕ). tab m (letter_in_any w keys n)) z
-
--- one line more
-pub any_turn : (w : ℕ) (keys : List ℕ) (i q : ℕ) {found here r : Bool} → found ≡ letter_in_any w keys i q → here ≡ letter_in w (key_at (2 * w) keys i) q → r ≡ (found || here) → r ≡ letter_in_any w keys (i + 1) q
+pub any_none : (w : ℕ) (keys : List ℕ) (q : ℕ) → get_or (replicate 256 false) q false ≡ letter_in_any w keys 0 q
 unfolding letter_in_any
-any_turn w keys i q e h r = r ∙ ap₂ ◌||◌ e h ∙ ap (λ (n : ℕ). letter_in_any w keys n q) (sym (add-one i))
+any_none w keys q = no_letter 256 q
+
+-- one line more, its words taken from the table
+pub any_turn : (w : ℕ) (keys : List ℕ) (i q : ℕ) {x y : Bool} → let b : ℕ = i * (2 * w) in
+    x ≡ (y || letter_in w (take (b + 2 * w - b) (drop b keys)) q) → y ≡ letter_in_any w keys i q → x ≡ letter_in_any w keys (i + 1) q
+unfolding letter_in_any
+any_turn w keys i q {x} {y} e f =
+    let size : i * (2 * w) + 2 * w - i * (2 * w) ≡ 2 * w = omega arith in
+    e ∙ ap₂ (λ (a : Bool) (n : ℕ). a || letter_in w (take n (drop (i * (2 * w)) keys)) q) f size ∙ ap (λ (n : ℕ). letter_in_any w keys n q) (sym (add-one i))
+
+pub letters_lines : (w : ℕ) (keys : List ℕ) (n i : ℕ) → i ≡ n → (s : List Bool) → length s ≡ 256 → ((q : ℕ) → q < 256 → get_or s q false ≡ letter_in_any w keys i q) → s ≡ letters_in_any w keys n
+unfolding letters_in_any
+letters_lines w keys n i e s long same = letters_of (letter_in_any w keys i) s long same ∙ ap (λ (m : ℕ). tab 256 (letter_in_any w keys m)) e
 
 -- ---- the inverse light cone
 -- the targets of an op, at most two, are those that the code has

@@ -1,8 +1,12 @@
-// Ops and lists of ops, the marks that say which of them a run applies, and what a run is given.
+// Ops, circuits and observables, what a run is given and what refuses it, and the marks that say which ops a run applies.
 #![tactic(auto)]
 
+ghost use Rattle.std.specs.Prelude.{◌≡◌, true};
+ghost use Rattle.ops.specs.Binary.{RealsAreBinary64, all_fit64};
+ghost use Rattle.ops.specs.Refusals.{number_of};
+
 pub mod marks;
-pub mod oplist;
+mod qubits;
 pub mod sizes;
 pub mod targets;
 
@@ -26,6 +30,41 @@ pub enum Op {
     Barrier,
 }
 
+// What a run applies: the number of qubits, and the ops in order. Every real of an op is a binary64, as every f64 is; the field says it
+// for all ops, since the prover knows it of one op that is passed.
+#[derive(Clone, Copy)]
+pub struct Circuit<'a> {
+    pub qubits: usize,
+    pub ops: &'a [Op],
+    ghost binary64: { all_fit64 ops.now ≡ true },
+}
+
+impl<'a> Circuit<'a> {
+    pub fn new(qubits: usize, ops: &'a [Op]) -> Circuit<'a>
+        ensures qubits { result.qubits ≡ qubits }
+        ensures ops { result.ops.now ≡ ops.now }
+    {
+        for op in ops {
+            op.fits64();
+        }
+        Circuit { qubits, ops }
+    }
+}
+
+impl Op {
+    // The reals of an op are binary64.
+    fn fits64(self)
+        ensures { RealsAreBinary64 self }
+    {}
+}
+
+// The lines of a table: line l has the weight l, and the 2 * w words from l * 2 * w on, for a width of w.
+#[derive(Clone, Copy)]
+pub struct Observable<'a> {
+    pub keys: &'a [u64],
+    pub weights: &'a [f64],
+}
+
 // The sheet's epsilon, max_terms and limit.
 #[derive(Clone, Copy)]
 pub struct Limits {
@@ -42,4 +81,39 @@ pub enum Run {
     All,
     Path,
     Wide,
+}
+
+// Why a sheet or a run is refused: the question that is answered no.
+#[derive(Clone, Copy, PartialEq, Eq)]
+pub enum Refusal {
+    Layout,
+    Counts,
+    RunLines,
+    Reals,
+    Qubits,
+    Repeats,
+    Room,
+    NotFinite,
+    TooMany,
+    Angles,
+}
+
+impl Refusal {
+    // The number of the question.
+    pub fn number(self) -> u8
+        ensures { result ≡ number_of self }
+    {
+        match self {
+            Refusal::Layout => 1,
+            Refusal::Counts => 2,
+            Refusal::RunLines => 3,
+            Refusal::Reals => 4,
+            Refusal::Qubits => 5,
+            Refusal::Repeats => 6,
+            Refusal::Room => 7,
+            Refusal::NotFinite => 8,
+            Refusal::TooMany => 9,
+            Refusal::Angles => 11,
+        }
+    }
 }

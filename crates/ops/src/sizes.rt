@@ -1,33 +1,21 @@
-// Question 2: the four counts, and whether the lent slices have so many lines and ops.
-ghost use Rattle.std.specs.Prelude.{◌≡◌};
+// Question 2: the four counts, and whether the keys have so many lines.
+ghost use Rattle.std.specs.Prelude.{◌≡◌, length};
 ghost use Rattle.ops.specs.Task.{counts_fit};
 ghost use Rattle.ops.specs.LineTable.{has_lines};
-ghost use Rattle.ops.specs.OpList.{has_ops};
 
-use crate::oplist::op_room;
-use choice::both;
+use crate::Observable;
 use words::rows::rows_of;
 
 pub fn counts_fit(qubits: usize, limit: usize, terms: usize, ops: usize) -> bool
     ensures { result ≡ counts_fit qubits limit terms ops }
 {
-    let some = both(
-        both(1 <= qubits, qubits <= 256),
-        both(1 <= limit, limit <= 1048576),
-    );
-    both(some, both(both(terms <= 1024, terms <= limit), ops <= 4096))
+    let some = 1 <= qubits && qubits <= 256 && 1 <= limit && limit <= 1048576;
+    some && terms <= 1024 && terms <= limit && ops <= 4096
 }
 
-// Whether a table of so many words and weights has the first n lines, of 2 * w words each.
-pub fn has_lines(w: usize, keys: usize, weights: usize, n: usize) -> bool
-    ensures { result ≡ has_lines w keys weights n }
+// Whether the keys have a word of 2 * w words for each weight.
+pub fn has_lines(w: usize, observable: Observable<'_>) -> bool
+    ensures { result ≡ has_lines w observable.entry.keys.now observable.entry.weights.now }
 {
-    both(n <= rows_of(keys, w), n <= weights)
-}
-
-// Whether slices of these lengths have the first n ops.
-pub fn has_ops(codes: usize, reals: usize, n: usize) -> bool
-    ensures { result ≡ has_ops codes reals n }
-{
-    n <= op_room(codes, reals)
+    observable.weights.len() <= rows_of(observable.keys.len(), w)
 }

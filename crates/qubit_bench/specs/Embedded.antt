@@ -5,7 +5,7 @@ use Rattle.rows.specs.Rows.{rows_in}
 use Rattle.text.specs.Bytes.{parts, newline}
 use Rattle.layout.specs.Layout.{head_of}
 use Rattle.replies.specs.Written.{Printing}
-use Rattle.sheet.specs.Questions.{verdict}
+use Rattle.questions.specs.Questions.{verdict}
 use Rattle.sheet.specs.Answer.{printed_of, LeavesBy}
 
 -- s is the sheet, r the answer; the rows, mean places and index are as after the sheet's own answer (`Answered`)

@@ -29,12 +29,12 @@ use Rattle.ops.specs.OpList.{has_ops}
 use Rattle.layout.specs.Loaded.{OpsLoaded, LinesLoaded}
 use Rattle.layout.proofs.LoadLaws.{rows_hold, ops_loaded, lines_loaded, lines_keys_long, lines_weights_long}
 use Rattle.replies.specs.declared.Reply.{Reply}
-use Rattle.sheet.specs.declared.Asked.TheVariants.{Two}
-use Rattle.sheet.specs.declared.Verdict.{Verdict}
-use Rattle.sheet.specs.declared.Verdict.TheVariants.{RefusedAt, Passed}
-use Rattle.sheet.specs.Questions.{question2, line_of, refused_or, verdict}
+use Rattle.questions.specs.declared.Asked.TheVariants.{Two}
+use Rattle.questions.specs.Verdict.{Verdict}
+use Rattle.questions.specs.Verdict.{RefusedAt, Passed}
+use Rattle.questions.specs.Questions.{question2, line_of, refused_or, verdict}
 use Rattle.sheet.specs.Answer.{limits_of, refusal, task_of, run_of, reply_to, reply_of, LeavesBy, Leaves, Answered}
-use Rattle.sheet.specs.Asking.{table_ops, Sound, early_verdict, later_verdict}
+use Rattle.questions.specs.Asking.{table_ops, Sound, early_verdict, later_verdict}
 use Rattle.sheet.specs.Running.{OpsRoom, LinesRoom, reply_end, table_task, table_run, Runnable, Ended, CanRun, Replied}
 use Rattle.sheet.proofs.PassLaws.{Yes, answers_of, yes_of, passed_passes}
 use Rattle.sheet.proofs.OutcomeLaws.{reply_of_end}

@@ -31,7 +31,7 @@ use Rattle.lines.specs.TermLines.{is_factor, are_factors, factor_texts, is_term,
 use Rattle.lines.specs.OpLines.{name_of, targets_in, reals_in, op_after, op}
 use Rattle.layout.specs.Layout.{head_kind, later_kind, kind, is_laid_out, bad_line, head_of}
 use Rattle.replies.specs.Printed.{z_lines, printed}
-use Rattle.sheet.specs.Questions.{first_of, first_fault, verdict}
+use Rattle.questions.specs.Questions.{first_of, first_fault, verdict}
 use Rattle.sheet.specs.Answer.{printed_of}
 
 -- opens the definitions that the cases compute

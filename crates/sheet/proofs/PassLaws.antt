@@ -28,11 +28,11 @@ use Rattle.lines.proofs.WordLaws.{letters_of_word}
 use Rattle.layout.specs.declared.Head.{Head}
 use Rattle.layout.specs.Layout.{head_of, question1, term_lines, sheet_ops}
 use Rattle.layout.proofs.LaidLaws.{term_lines_length, op_list_length}
-use Rattle.sheet.specs.declared.Asked.TheVariants.{Two, Three, Four, Eleven}
-use Rattle.sheet.specs.declared.Verdict.{Verdict}
-use Rattle.sheet.specs.declared.Verdict.TheVariants.{RefusedAt, Passed}
-use Rattle.sheet.specs.Questions.{Question, question2, question3, question4, question11, question5, question6, question7}
-use Rattle.sheet.specs.Questions.{count_fits, weight_fits, channel_fits, places_fit, ◌or_else◌, unless, first_of, head_line, ops_line, first_no, refused_or, line_of, fault_of, first_fault, op_fault, room_verdict, verdict}
+use Rattle.questions.specs.declared.Asked.TheVariants.{Two, Three, Four, Eleven}
+use Rattle.questions.specs.Verdict.{Verdict}
+use Rattle.questions.specs.Verdict.{RefusedAt, Passed}
+use Rattle.questions.specs.Questions.{Question, question2, question3, question4, question11, question5, question6, question7}
+use Rattle.questions.specs.Questions.{count_fits, weight_fits, channel_fits, places_fit, ◌or_else◌, unless, first_of, head_line, ops_line, first_no, refused_or, line_of, fault_of, first_fault, op_fault, room_verdict, verdict}
 use Rattle.sheet.specs.Answer.{task_of}
 
 -- ---- the verdict

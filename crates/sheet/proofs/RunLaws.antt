@@ -32,13 +32,13 @@ use Rattle.dynamics.specs.Outcome.{outcome_of, sum_run, all_runs}
 use Rattle.ops.specs.LineTable.{table_line, has_lines}
 use Rattle.turns.proofs.RunLaws.{ending_of_lem}
 use Rattle.ops.specs.OpList.{has_ops}
-use Rattle.sheet.specs.Asking.{table_ops}
+use Rattle.questions.specs.Asking.{table_ops}
 use Rattle.runs.specs.ConeRuns.{ConeRan, WideRan}
 use Rattle.turns.specs.AllRuns.{all_task, fits_all, room_all, all_held, all_asked, means_of, AllRan}
 use Rattle.layout.specs.declared.Head.{Head}
 use Rattle.replies.specs.declared.Reply.{Reply}
 use Rattle.terms.specs.Term.{Term}
-use Rattle.sheet.specs.Questions.{places_fit}
+use Rattle.questions.specs.Questions.{places_fit}
 use Rattle.sheet.specs.Answer.{limits_of, reply, refusal, means_after}
 use Rattle.sheet.specs.Running.{means_count, reply_end, table_task, table_run, Runnable, Ended}
 

@@ -19,9 +19,9 @@ use Rattle.lines.specs.TermLines.{word_line}
 use Rattle.layout.specs.Layout.{head_of, term_lines, sheet_ops}
 use Rattle.replies.specs.declared.Reply.{Reply}
 use Rattle.replies.specs.Printed.{printed}
-use Rattle.sheet.specs.declared.Verdict.{Verdict}
-use Rattle.sheet.specs.declared.Verdict.TheVariants.{RefusedAt, Passed}
-use Rattle.sheet.specs.Questions.{verdict}
+use Rattle.questions.specs.Verdict.{Verdict}
+use Rattle.questions.specs.Verdict.{RefusedAt, Passed}
+use Rattle.questions.specs.Questions.{verdict}
 
 -- ---- the run of a sheet
 

@@ -16,11 +16,11 @@ use Rattle.dynamics.specs.Outcome.{outcome_of}
 use Rattle.ops.specs.LineTable.{task_in}
 use Rattle.layout.specs.declared.Head.{Head}
 use Rattle.replies.specs.declared.Reply.{Reply}
-use Rattle.sheet.specs.declared.Verdict.{Verdict}
-use Rattle.sheet.specs.declared.Verdict.TheVariants.{Passed}
-use Rattle.sheet.specs.Questions.{question7, verdict}
+use Rattle.questions.specs.Verdict.{Verdict}
+use Rattle.questions.specs.Verdict.{Passed}
+use Rattle.questions.specs.Questions.{question7, verdict}
 use Rattle.sheet.specs.Answer.{limits_of, reply, refusal, reply_to, Leaves, LeavesBy}
-use Rattle.sheet.specs.Asking.{table_ops, Sound}
+use Rattle.questions.specs.Asking.{table_ops, Sound}
 
 -- how many Z means a run that succeeds leaves
 abbrev pub means_count : Run → ℕ → ℕ

@@ -7,8 +7,8 @@ use Rattle.cones.specs.LightCone.{Equal, Which, one, another, Way, as_full, as_c
 use Rattle.layout.specs.Layout.{head_of}
 use Rattle.replies.specs.declared.Reply.{Reply}
 use Rattle.replies.specs.Printed.{printed}
-use Rattle.sheet.specs.declared.Verdict.TheVariants.{Passed}
-use Rattle.sheet.specs.Questions.{verdict}
+use Rattle.questions.specs.Verdict.{Passed}
+use Rattle.questions.specs.Questions.{verdict}
 use Rattle.sheet.specs.Answer.{task_of, reply, reply_of}
 
 -- ---- "Demand 3 takes each of its sheets as `run=full` and as `run=cone`, the other lines as they are"

@@ -4,7 +4,7 @@ ghost use Rattle.words.specs.Keys.{width_of};
 ghost use Rattle.rows.specs.Rows.{rows_in};
 ghost use Rattle.text.specs.Bytes.{parts, newline};
 ghost use Rattle.sheet.specs.Answer.{Answered};
-ghost use Rattle.sheet.specs.Asking.{table_ops, early_verdict, later_verdict};
+ghost use Rattle.questions.specs.Asking.{table_ops, early_verdict, later_verdict};
 ghost use Rattle.sheet.specs.Running.{OpsRoom, LinesRoom, CanRun, Replied};
 
 use crate::Verdict;

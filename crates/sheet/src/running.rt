@@ -1,7 +1,7 @@
 // The run of a sheet that passed the questions.
 ghost use Rattle.std.specs.Prelude.{◌≡◌};
 ghost use Rattle.sheet.specs.Answer.{limits_of};
-ghost use Rattle.sheet.specs.Asking.{table_ops};
+ghost use Rattle.questions.specs.Asking.{table_ops};
 ghost use Rattle.sheet.specs.Running.{Runnable, Ended, table_run};
 
 use layout::Head;

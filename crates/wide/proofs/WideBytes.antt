@@ -25,9 +25,9 @@ use Rattle.lines.specs.OpLines.{op_on}
 use Rattle.layout.specs.declared.Head.{Head}
 use Rattle.layout.specs.Layout.{kind, head_kind, is_laid_out, bad_line, head_of, question1, term_lines, sheet_ops}
 use Rattle.replies.specs.Printed.{printed}
-use Rattle.sheet.specs.declared.Verdict.{Verdict}
-use Rattle.sheet.specs.declared.Verdict.TheVariants.{RefusedAt, Passed}
-use Rattle.sheet.specs.Questions.{question2, question3, question4, question11, question7, first_no, refused_or, term_fault, op_fault, first_fault, verdict}
+use Rattle.questions.specs.Verdict.{Verdict}
+use Rattle.questions.specs.Verdict.{RefusedAt, Passed}
+use Rattle.questions.specs.Questions.{question2, question3, question4, question11, question7, first_no, refused_or, term_fault, op_fault, first_fault, verdict}
 use Rattle.sheet.specs.Answer.{task_of, refusal, reply_run, reply_to, reply_of, means_run, means_to, printed_of}
 use Rattle.sheet.specs.SheetCone.{rejoined, task_of_bytes, SameReply}
 use Rattle.sheet.specs.Screen.{bench}

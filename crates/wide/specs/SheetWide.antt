@@ -5,9 +5,9 @@ use Rattle.text.specs.Bytes.{bytes, parts, newline}
 use Rattle.cones.specs.Wide.{Way, as_path, as_wide, Provided, AgreesWithPath}
 use Rattle.layout.specs.Layout.{head_of}
 use Rattle.replies.specs.declared.Reply.{Reply}
-use Rattle.sheet.specs.declared.Verdict.{Verdict}
-use Rattle.sheet.specs.declared.Verdict.TheVariants.{RefusedAt, Passed}
-use Rattle.sheet.specs.Questions.{verdict}
+use Rattle.questions.specs.Verdict.{Verdict}
+use Rattle.questions.specs.Verdict.{RefusedAt, Passed}
+use Rattle.questions.specs.Questions.{verdict}
 use Rattle.sheet.specs.Answer.{refusal, reply_of, printed_of}
 use Rattle.sheet.specs.SheetCone.{rejoined, task_of_bytes, SameReply}
 use Rattle.sheet.specs.Screen.{bench}

@@ -1,5 +1,5 @@
 use Rattle.sheet.proofs.AnswerLaws.{runnable, replied}
-use Rattle.sheet.specs.Asking.{table_ops}
+use Rattle.questions.specs.Asking.{table_ops}
 use Rattle.text.specs.Bytes.{parts, newline}
 use mathlib.Core.Path.{refl}
 use borrow.Author.Rules.{rules}

@@ -3,7 +3,7 @@ use Rattle.ops.specs.declared.Run.{Run}
 use Rattle.ops.specs.declared.Run.TheVariants.{Full, Path}
 use Rattle.sheet.proofs.OutcomeLaws.{all_left}
 use Rattle.sheet.proofs.RunLaws.{marked_ended, cone_ended, wide_ended, all_ended}
-use Rattle.sheet.specs.Asking.{table_ops}
+use Rattle.questions.specs.Asking.{table_ops}
 use Rattle.sheet.specs.Running.{table_task}
 use Rattle.turns.specs.SumRuns.{left_by}
 use mathlib.Core.Path.{refl, ap, ◌∙◌}

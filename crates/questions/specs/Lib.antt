@@ -1,0 +1,3 @@
+pub mod Verdict
+pub mod Questions
+pub mod Asking
