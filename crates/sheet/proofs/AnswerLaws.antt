@@ -22,6 +22,7 @@ use Rattle.dynamics.specs.Outcome.{outcome_of, t_count_of}
 use Rattle.ops.specs.LineTable.{table_line}
 use Rattle.lines.specs.TermLines.{word_line}
 use Rattle.layout.specs.declared.Head.{Head}
+use Rattle.std.specs.Prelude.{Option, Some, None}
 use Rattle.layout.specs.Layout.{head_of, question1, term_lines, sheet_ops}
 use Rattle.layout.proofs.LaidLaws.{op_list_length}
 use Rattle.ops.proofs.OpListLaws as slices
@@ -32,7 +33,7 @@ use Rattle.replies.specs.declared.Reply.{Reply}
 use Rattle.sheet.specs.declared.Asked.TheVariants.{Two}
 use Rattle.sheet.specs.declared.Verdict.{Verdict}
 use Rattle.sheet.specs.declared.Verdict.TheVariants.{RefusedAt, Passed}
-use Rattle.sheet.specs.Questions.{question2, line_of, refused_or, verdict}
+use Rattle.sheet.specs.Questions.{question2, line_of, refused_or, refused_at, verdict}
 use Rattle.sheet.specs.Answer.{limits_of, refusal, task_of, run_of, reply_to, reply_of, LeavesBy, Leaves, Answered}
 use Rattle.sheet.specs.Asking.{table_ops, Sound, early_verdict, later_verdict}
 use Rattle.sheet.specs.Running.{OpsRoom, LinesRoom, reply_end, table_task, table_run, Runnable, Ended, CanRun, Replied}
@@ -43,36 +44,36 @@ clash : {n k : ℕ} → RefusedAt n k ≡ Passed → ⊥
 clash q = let z : ◌≡◌ {A = ℕ} 0 1 = cc in omega arith
 
 -- ---- questions 1 and 2, and then the others
-module _ (a b : ℕ) where
+module _ (a : Option ℕ) (b : ℕ) where
   abbrev two_of : Verdict → Verdict
-  two_of v = refused_or 1 a (refused_or 2 b v)
+  two_of v = refused_at 1 a (refused_or 2 b v)
 
-  split_on : (v : Verdict) → two_of Passed ≡ Passed → (a ≡ 0) × (b ≡ 0)
-  split_on v e = go (eqb a 0) refl (eqb b 0) refl e
+  split_on : (v : Verdict) → two_of Passed ≡ Passed → (a ≡ None) × (b ≡ 0)
+  split_on v e = go a (eqb b 0) refl e
     where
-      go : (x : Bool) → eqb a 0 ≡ x → (y : Bool) → eqb b 0 ≡ y → cond x (cond y Passed (RefusedAt 2 b)) (RefusedAt 1 a) ≡ Passed → (a ≡ 0) × (b ≡ 0)
-      go true p true q h = (eqb-true a 0 p, eqb-true b 0 q)
-      go true p false q h = absurd (clash h)
-      go false p y q h = absurd (clash h)
+      go : (o : Option ℕ) (y : Bool) → eqb b 0 ≡ y → refused_at 1 o (cond y Passed (RefusedAt 2 b)) ≡ Passed → (o ≡ None) × (b ≡ 0)
+      go None true q h = (refl, eqb-true b 0 q)
+      go None false q h = absurd (clash h)
+      go (Some k) y q h = absurd (clash h)
 
-pub early_laid : (h : Head) (ls : List (List ℕ)) → early_verdict h ls ≡ Passed → (question1 h ls ≡ 0) × (line_of Two h ls ≡ 0)
+pub early_laid : (h : Head) (ls : List (List ℕ)) → early_verdict h ls ≡ Passed → (question1 h ls ≡ None) × (line_of Two h ls ≡ 0)
 early_laid h ls e = split_on (question1 h ls) (line_of Two h ls) Passed e
 
 pub early_passed : (h : Head) (ls : List (List ℕ)) (rows places : ℕ) → early_verdict h ls ≡ Passed → verdict h ls rows places ≡ later_verdict h ls rows places
 unfolding verdict
 early_passed h ls rows places e =
     let s = early_laid h ls e in
-    ap (λ (x : ℕ). refused_or 1 x (refused_or 2 (line_of Two h ls) (later_verdict h ls rows places))) s.0 ∙ ap (λ (x : ℕ). refused_or 2 x (later_verdict h ls rows places)) s.1
+    ap (λ (x : Option ℕ). refused_at 1 x (refused_or 2 (line_of Two h ls) (later_verdict h ls rows places))) s.0 ∙ ap (λ (x : ℕ). refused_or 2 x (later_verdict h ls rows places)) s.1
 
 pub early_refused : (h : Head) (ls : List (List ℕ)) (rows places n k : ℕ) → early_verdict h ls ≡ RefusedAt n k → verdict h ls rows places ≡ RefusedAt n k
 unfolding verdict
-early_refused h ls rows places n k e = go (eqb (question1 h ls) 0) (eqb (line_of Two h ls) 0) e
+early_refused h ls rows places n k e = go (question1 h ls) (eqb (line_of Two h ls) 0) e
   where
-    go : (x y : Bool) → cond x (cond y Passed (RefusedAt 2 (line_of Two h ls))) (RefusedAt 1 (question1 h ls)) ≡ RefusedAt n k
-        → cond x (cond y (later_verdict h ls rows places) (RefusedAt 2 (line_of Two h ls))) (RefusedAt 1 (question1 h ls)) ≡ RefusedAt n k
-    go true true p = absurd (clash (sym p))
-    go true false p = p
-    go false y p = p
+    go : (o : Option ℕ) (y : Bool) → refused_at 1 o (cond y Passed (RefusedAt 2 (line_of Two h ls))) ≡ RefusedAt n k
+        → refused_at 1 o (cond y (later_verdict h ls rows places) (RefusedAt 2 (line_of Two h ls))) ≡ RefusedAt n k
+    go None true p = absurd (clash (sym p))
+    go None false p = p
+    go (Some j) y p = p
 
 -- what a sheet that passed 1 and 2 has, and the table with its ops
 pub laid_sound : (h : Head) (ls : List (List ℕ)) (codes₀ codes : List ℕ) (reals₀ reals : List Float) → OpsRoom h codes₀ reals₀ → early_verdict h ls ≡ Passed

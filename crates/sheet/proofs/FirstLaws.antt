@@ -13,6 +13,7 @@ use borrow.Author.Tests.{ne_eqb}
 use Rattle.text.specs.Bytes.{parts, newline}
 use Rattle.layout.specs.declared.Head.{Head}
 use Rattle.layout.specs.Cursor.{line_at, start_at}
+use Rattle.std.specs.Prelude.{None}
 use Rattle.layout.specs.Layout.{question1, term_lines}
 use Rattle.layout.proofs.CursorLaws.{line_there}
 use Rattle.lines.specs.TermLines.{line_on}
@@ -44,7 +45,7 @@ pub first_start : {A : Type 0} (p : A → Bool) (k : ℕ) (l : List A) → first
 first_start p k l = ap (λ (m : ℕ). first_of p m l) (add-zero k)
 
 -- ---- `term` line i of a sheet, where it starts
-pub term_line : (h : Head) (s : List ℕ) (i at : ℕ) (l : List ℕ) → question1 h (parts newline s) ≡ 0 → i < h.terms → at ≡ start_at s 0 (6 + i) → l ≡ line_at s at
+pub term_line : (h : Head) (s : List ℕ) (i at : ℕ) (l : List ℕ) → question1 h (parts newline s) ≡ None → i < h.terms → at ≡ start_at s 0 (6 + i) → l ≡ line_at s at
     → line_on l ≡ get_or (term_lines h (parts newline s)) i (line_on [])
 term_line h s i at l q b e f =
     ap line_on (f ∙ ap (line_at s) e ∙ line_there s (6 + i) ∙ sym (get_or-drop 6 (parts newline s) i []) ∙ sym (get_or-take h.terms (drop 6 (parts newline s)) i [] b))

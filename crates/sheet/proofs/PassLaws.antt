@@ -26,13 +26,14 @@ use Rattle.lines.specs.OpLines.{op_on}
 use Rattle.lines.proofs.BinaryLaws.{field_is, op_line_is, term_line_is}
 use Rattle.lines.proofs.WordLaws.{letters_of_word}
 use Rattle.layout.specs.declared.Head.{Head}
+use Rattle.std.specs.Prelude.{Option, Some, None}
 use Rattle.layout.specs.Layout.{head_of, question1, term_lines, sheet_ops}
 use Rattle.layout.proofs.LaidLaws.{term_lines_length, op_list_length}
 use Rattle.sheet.specs.declared.Asked.TheVariants.{Two, Three, Four, Eleven}
 use Rattle.sheet.specs.declared.Verdict.{Verdict}
 use Rattle.sheet.specs.declared.Verdict.TheVariants.{RefusedAt, Passed}
 use Rattle.sheet.specs.Questions.{Question, question2, question3, question4, question11, question5, question6, question7}
-use Rattle.sheet.specs.Questions.{count_fits, weight_fits, channel_fits, places_fit, ◌or_else◌, unless, first_of, head_line, ops_line, first_no, refused_or, line_of, fault_of, first_fault, op_fault, room_verdict, verdict}
+use Rattle.sheet.specs.Questions.{count_fits, weight_fits, channel_fits, places_fit, ◌or_else◌, unless, first_of, head_line, ops_line, first_no, refused_or, refused_at, line_of, fault_of, first_fault, op_fault, room_verdict, verdict}
 use Rattle.sheet.specs.Answer.{task_of}
 
 -- ---- the verdict
@@ -49,6 +50,10 @@ refused_none n line v h = go (eqb line 0) refl h
     go : (b : Bool) → eqb line 0 ≡ b → cond b v (RefusedAt n line) ≡ Passed → (line ≡ 0) × (v ≡ Passed)
     go true e h = (eqb-true line 0 e, h)
     go false e h = absurd (not_passed n line h)
+
+laid_none : (o : Option ℕ) (v : Verdict) → refused_at 1 o v ≡ Passed → (o ≡ None) × (v ≡ Passed)
+laid_none None v h = (refl, h)
+laid_none (Some k) v h = absurd (not_passed 1 k h)
 
 last_passed : (b : Bool) → cond b Passed (RefusedAt 7 0) ≡ Passed → b ≡ true
 last_passed true h = refl
@@ -81,7 +86,7 @@ pub record Yes (q : Question) (ls : List TermLine) (os : List Op) : Type 0 where
 
 -- no question fails
 pub record Answers (h : Head) (ls : List (List ℕ)) (rows places : ℕ) : Type 0 where
-  pub laid : question1 h ls ≡ 0
+  pub laid : question1 h ls ≡ None
   pub two : line_of Two h ls ≡ 0
   pub three : line_of Three h ls ≡ 0
   pub four : line_of Four h ls ≡ 0
@@ -93,7 +98,7 @@ pub record Answers (h : Head) (ls : List (List ℕ)) (rows places : ℕ) : Type 
 pub answers_of : (h : Head) (ls : List (List ℕ)) (rows places : ℕ) → verdict h ls rows places ≡ Passed → Answers h ls rows places
 unfolding verdict
 answers_of h ls rows places e =
-    let a = refused_none 1 _ _ e in
+    let a = laid_none _ _ e in
     let b = refused_none 2 _ _ a.1 in
     let c = refused_none 3 _ _ b.1 in
     let d = refused_none 4 _ _ c.1 in

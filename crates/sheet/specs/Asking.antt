@@ -1,5 +1,5 @@
 -- Words of the private contracts: how the questions are asked.
-use Rattle.std.specs.Prelude.{◌≡◌, ℕ, ◌≤◌, List, Float}
+use Rattle.std.specs.Prelude.{◌≡◌, ℕ, ◌≤◌, List, Float, None}
 use Rattle.ops.specs.declared.Op.{Op}
 use Rattle.ops.specs.OpList as T
 use Rattle.layout.specs.declared.Head.{Head}
@@ -7,7 +7,7 @@ use Rattle.layout.specs.Layout.{question1, sheet_ops}
 use Rattle.sheet.specs.declared.Asked.TheVariants.{Two, Three, Four, Eleven}
 use Rattle.sheet.specs.declared.Verdict.{Verdict}
 use Rattle.sheet.specs.declared.Verdict.TheVariants.{Passed}
-use Rattle.sheet.specs.Questions.{line_of, refused_or, by_line, room_verdict}
+use Rattle.sheet.specs.Questions.{line_of, refused_or, refused_at, by_line, room_verdict}
 
 -- the ops in a table: two slices, see turns OpList
 abbrev pub table_ops : Head → List ℕ → List Float → List Op
@@ -15,7 +15,7 @@ table_ops h codes reals = T.op_list h.ops codes reals
 
 -- what questions 3 to 7 may rely on: the sheet passes 1 and 2, and os, the ops in a table, are its op list
 pub record Sound (h : Head) (ls : List (List ℕ)) (os : List Op) : Type 0 where
-  pub laid : question1 h ls ≡ 0
+  pub laid : question1 h ls ≡ None
   pub qubits : h.qubits ≤ 256
   pub limit : h.limit ≤ 1048576
   pub terms : h.terms ≤ 1024
@@ -28,7 +28,7 @@ IsSecond h r = (ls : List (List ℕ)) → r ≡ line_of Two h ls
 
 -- questions 1 and 2, and then 3 to 7
 abbrev pub early_verdict : Head → List (List ℕ) → Verdict
-early_verdict h ls = refused_or 1 (question1 h ls) (refused_or 2 (line_of Two h ls) Passed)
+early_verdict h ls = refused_at 1 (question1 h ls) (refused_or 2 (line_of Two h ls) Passed)
 
 abbrev pub later_verdict : Head → List (List ℕ) → ℕ → ℕ → Verdict
 later_verdict h ls rows places =

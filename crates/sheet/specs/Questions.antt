@@ -1,6 +1,6 @@
 -- "Questions before and during a run": 1 to 7 and 11. "Each is put to the whole sheet before the next, 1 to 7; the line returned is the first that
 -- fails, counted from 1." 11 is put after 4 (2026-06), and 5 and 6 together, line by line (2026-01).
-use Rattle.std.specs.Prelude.{ℕ, suc, ◌+◌, ◌*◌, Bool, true, cond, ◌&&◌, List, [], ◌∷◌, leb, eqb, Float}
+use Rattle.std.specs.Prelude.{ℕ, suc, ◌+◌, ◌*◌, Bool, true, cond, ◌&&◌, List, [], ◌∷◌, leb, eqb, Float, Option, Some, None}
 use Rattle.std.specs.Float.Ieee.{eq}
 use Rattle.numbers.specs.Constants.{one64}
 use Rattle.numbers.specs.Tests.{is_finite, is_epsilon}
@@ -165,6 +165,11 @@ first_no q t ls os = head_line q or_else first_of q.term 7 ls or_else ops_line q
 abbrev pub refused_or : ℕ → ℕ → Verdict → Verdict
 refused_or n line v = cond (eqb line 0) v (RefusedAt n line)
 
+-- the same of question 1, whose line is there where it fails
+abbrev pub refused_at : ℕ → Option ℕ → Verdict → Verdict
+refused_at n None v = v
+refused_at n (Some line) v = RefusedAt n line
+
 abbrev pub line_of : Asked → Head → List (List ℕ) → ℕ
 line_of a h ls = first_no (question_of a h) h.terms (term_lines h ls) (sheet_ops h ls)
 
@@ -174,7 +179,7 @@ room_verdict h rows places = cond (question7 h rows places) Passed (RefusedAt 7 
 -- questions 1 to 4, then v
 abbrev pub by_question : Head → List (List ℕ) → Verdict → Verdict
 by_question h ls v =
-    refused_or 1 (question1 h ls)
+    refused_at 1 (question1 h ls)
     (refused_or 2 (line_of Two h ls)
     (refused_or 3 (line_of Three h ls)
     (refused_or 4 (line_of Four h ls) v)))

@@ -1,5 +1,5 @@
 // The first line of a sheet at which the answer to a question is no.
-ghost use Rattle.std.specs.Prelude.{◌≡◌, ◌+◌, ◌≤◌};
+ghost use Rattle.std.specs.Prelude.{◌≡◌, ◌+◌, ◌≤◌, None};
 ghost use Rattle.text.specs.Bytes.{parts, newline};
 ghost use Rattle.layout.specs.Layout.{question1, term_lines};
 ghost use Rattle.sheet.specs.Questions.{question_of, first_of, ◌or_else◌, ops_line, line_of};
@@ -57,7 +57,7 @@ fn ops_line(asked: Asked, head: Head, codes: &[usize], reals: &[f64]) -> usize
 
 // The first `term` line that fails.
 fn first_term(asked: Asked, head: Head, s: &[u8]) -> usize
-    requires { (question1 head (parts newline s.now) ≡ 0) × (head.terms ≤ 1024) }
+    requires { (question1 head (parts newline s.now) ≡ None) × (head.terms ≤ 1024) }
     ensures { result ≡ first_of (question_of asked head).term 7 (term_lines head (parts newline s.now)) }
 {
     let terms = head.terms;

@@ -1,5 +1,5 @@
 // Questions 5 and 6, put line by line: the first line with a qubit outside or a repeat, and which of the two refuses it.
-ghost use Rattle.std.specs.Prelude.{◌≡◌, ◌≤◌};
+ghost use Rattle.std.specs.Prelude.{◌≡◌, ◌≤◌, None};
 ghost use Rattle.text.specs.Bytes.{parts, newline};
 ghost use Rattle.lines.specs.TermLines.{line_on};
 ghost use Rattle.layout.specs.Layout.{question1, term_lines};
@@ -43,7 +43,7 @@ fn op_fault(head: Head, op: Op) -> u8
 
 // The first `term` line that is refused; else `rest`.
 fn first_term_fault(head: Head, s: &[u8], rest: Verdict) -> Verdict
-    requires { (question1 head (parts newline s.now) ≡ 0) × ((head.terms ≤ 1024) × (head.qubits ≤ 256)) }
+    requires { (question1 head (parts newline s.now) ≡ None) × ((head.terms ≤ 1024) × (head.qubits ≤ 256)) }
     ensures { result ≡ first_fault (term_fault head) 7 (term_lines head (parts newline s.now)) rest }
 {
     let terms = head.terms;

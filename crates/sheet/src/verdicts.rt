@@ -33,8 +33,7 @@ pub(crate) fn early_verdict(s: &[u8], head: Head) -> Verdict
 {
     let terms = head.terms;
     let ops = head.ops;
-    let a = first_bad_line(s, terms, ops);
-    if a != 0 {
+    if let Some(a) = first_bad_line(s, terms, ops) {
         return Verdict::RefusedAt(1, a);
     }
     let b = second_line(head);
