@@ -5,14 +5,16 @@ use mathlib.Core.Bool.{Bool, true, false, cond, not, ◌&&◌}
 use mathlib.Core.List.{List, [], ◌∷◌}
 use native.Mathlib.Omega.{arith}
 use lib.Dec.{leb, eqb}
-use borrow.Author.Tests.{eqb-false, lt-ltb}
+use borrow.Author.Tests.{eqb-false, lt-ltb, ne_eqb}
 use Rattle.terms.proofs.CaseLaws.{and_true}
 use Rattle.layout.specs.declared.Head.{Head}
+use Rattle.std.specs.Prelude.{Option, Some, None}
+use Rattle.layout.proofs.LaidLaws.{question1_above}
 use Rattle.layout.specs.Layout.{question1, term_lines, sheet_ops}
 use Rattle.sheet.specs.declared.Asked.TheVariants.{Two, Three, Four}
 use Rattle.sheet.specs.declared.Verdict.{Verdict}
 use Rattle.sheet.specs.declared.Verdict.TheVariants.{RefusedAt, Passed}
-use Rattle.sheet.specs.Questions.{question5, question6, question7, refused_or, line_of, fault_of, first_fault, by_line, room_verdict, verdict}
+use Rattle.sheet.specs.Questions.{question5, question6, question7, refused_or, refused_at, line_of, fault_of, first_fault, by_line, room_verdict, verdict}
 use Rattle.changes.specs.NoAngle.{unasked, earlier, broken_line, no_angle, AnglesOnly}
 use Rattle.changes.proofs.ComparedLaws.{and_false, raised, RunsAlike, IsRaised, compared}
 
@@ -78,6 +80,10 @@ module _ (h : Head) (ls : List (List ℕ)) where
           let g = and_true (leb 1 n) (leb n 4) e in
           holds (not (eqb (broken_line h ls) 0)) (ap₂ ◌&&◌ g.0 (ap₂ ◌&&◌ g.1 (lt-ltb 0 a (pos a (eqb-false a 0 z)))))
 
+  laid_past : (o : Option ℕ) (v w : Verdict) → ((k : ℕ) → o ≡ Some k → 0 < k) → w ≡ raised no_angle h ls v → refused_at 1 o w ≡ raised no_angle h ls (refused_at 1 o v)
+  laid_past None v w g f = f
+  laid_past (Some k) v w g f = rw (ne_eqb k 0 (λ z. omega (arith, g k refl))) at (past 1 k v w refl f)
+
 verdict_raised : IsRaised no_angle
 unfolding verdict unasked
 verdict_raised h ls rows places =
@@ -85,7 +91,7 @@ verdict_raised h ls rows places =
     let b = line_of Two h ls in
     let c = line_of Three h ls in
     let d = line_of Four h ls in
-    past h ls 1 (question1 h ls) (refused_or 2 b (refused_or 3 c (refused_or 4 d v))) _ refl
+    laid_past h ls (question1 h ls) (refused_or 2 b (refused_or 3 c (refused_or 4 d v))) _ (question1_above h ls)
     (past h ls 2 b (refused_or 3 c (refused_or 4 d v)) _ refl
     (past h ls 3 c (refused_or 4 d v) _ refl
     (past h ls 4 d v _ refl (here h ls v (late_lines h ls (room_verdict h rows places) (late_room h rows places))))))

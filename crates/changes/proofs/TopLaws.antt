@@ -10,11 +10,12 @@ use lib.ListN.{length, take, drop, length-map, length-take}
 use borrow.Author.Tests.{eqb-true, ne_eqb, lt-ltb, le-ltb}
 use Rattle.lines.specs.TermLines.{line_on}
 use Rattle.layout.specs.declared.Head.{Head}
+use Rattle.std.specs.Prelude.{Option, Some, None}
 use Rattle.layout.specs.Layout.{question1, term_lines, sheet_ops}
 use Rattle.sheet.specs.declared.Asked.TheVariants.{Two, Three, Four, Eleven}
 use Rattle.sheet.specs.declared.Verdict.{Verdict}
 use Rattle.sheet.specs.declared.Verdict.TheVariants.{RefusedAt, Passed}
-use Rattle.sheet.specs.Questions.{question5, question6, question7, ◌or_else◌, first_of, refused_or, line_of, by_question, fault_of, first_fault, by_line, room_verdict, verdict}
+use Rattle.sheet.specs.Questions.{question5, question6, question7, ◌or_else◌, first_of, refused_or, refused_at, line_of, by_question, fault_of, first_fault, by_line, room_verdict, verdict}
 use Rattle.changes.specs.TopLine.{outside_line, repeat_line, one_by_one, top_line, TopLineFirst}
 use Rattle.changes.proofs.ComparedLaws.{and_false, raised, RunsAlike, IsRaised, compared}
 
@@ -124,6 +125,10 @@ raised_past h ls n a v e = go (eqb a 0)
     go true = refl
     go false = ap (λ (b : Bool). cond (b && (ltb 0 (repeat_line h ls) && ltb (repeat_line h ls) a)) (RefusedAt 6 (repeat_line h ls)) (RefusedAt n a)) e
 
+laid_past : (h : Head) (ls : List (List ℕ)) (o : Option ℕ) (v : Verdict) → raised top_line h ls (refused_at 1 o v) ≡ refused_at 1 o (raised top_line h ls v)
+laid_past h ls None v = refl
+laid_past h ls (Some k) v = refl
+
 module _ (h : Head) (ls : List (List ℕ)) where
   abbrev five : ℕ
   five = outside_line h ls
@@ -156,8 +161,8 @@ questions_raised h ls v =
     let b = line_of Two h ls in
     let c = line_of Three h ls in
     let d = line_of Four h ls in
-    sym (raised_past h ls 1 (question1 h ls) (refused_or 2 b (refused_or 3 c (refused_or 4 d v))) refl
-    ∙ ap (refused_or 1 (question1 h ls)) (raised_past h ls 2 b (refused_or 3 c (refused_or 4 d v)) refl
+    sym (laid_past h ls (question1 h ls) (refused_or 2 b (refused_or 3 c (refused_or 4 d v)))
+    ∙ ap (refused_at 1 (question1 h ls)) (raised_past h ls 2 b (refused_or 3 c (refused_or 4 d v)) refl
     ∙ ap (refused_or 2 b) (raised_past h ls 3 c (refused_or 4 d v) refl
     ∙ ap (refused_or 3 c) (raised_past h ls 4 d v refl))))
 
