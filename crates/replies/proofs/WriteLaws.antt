@@ -10,7 +10,8 @@ use lib.Dec.{leb}
 use borrow.Author.Tests.{leb-true, leb-false}
 use lib.ListN.{length, get_or, take, drop, set, length-append, length-set}
 use lib.Seq.{set_out, set-append_seam, take-nil, take-suc, take_all, append_snoc}
-use Rattle.replies.specs.Written.{written, place_after, Wrote, Printing}
+use Rattle.replies.specs.Written.{written, place_after, Wrote, Writes, Printing}
+use Rattle.replies.specs.declared.Page.{Page}
 
 -- ---- the buffer
 
@@ -99,11 +100,22 @@ printing {r} {text} {out} {out'} a = record {
   bytes = a.left ∙ written_front [] text out;
 }
 
--- ---- a text byte by byte
+-- ---- pieces on a page
 
-pub more : {at r r' : ℕ} {out out₁ out₂ : List ℕ} (s : List ℕ) (i : ℕ) → i < length s → Wrote at (take i s) out r out₁ → Wrote r (get_or s i 0 ∷ []) out₁ r' out₂
-    → Wrote at (take (i + 1) s) out r' out₂
-more s i h a b = spelled (sym (take-suc s i 0 h) ∙ ap (λ (k : ℕ). take k s) (sym (add-one i))) (join a b)
+pub both : {p q r : Page} {a b : List ℕ} → Writes p a q → Writes q b r → Writes p (a ++ b) r
+both x y = record { same_reference = y.same_reference ∙ x.same_reference; wrote = join x.wrote y.wrote }
 
-pub all : {at r : ℕ} {out out' : List ℕ} (s : List ℕ) (i : ℕ) → length s ≤ i → Wrote at (take i s) out r out' → Wrote at s out r out'
-all s i h a = spelled (take_all i s h) a
+-- the same text by another name
+pub put : {p q : Page} {a b : List ℕ} → a ≡ b → Writes p a q → Writes p b q
+put e x = record { same_reference = x.same_reference; wrote = spelled e x.wrote }
+
+-- a text byte by byte
+pub more : {p q r : Page} (s : List ℕ) (i : ℕ) → i < length s → Writes p (take i s) q → Writes q (get_or s i 0 ∷ []) r → Writes p (take (i + 1) s) r
+more s i h a b = put (sym (take-suc s i 0 h) ∙ ap (λ (k : ℕ). take k s) (sym (add-one i))) (both a b)
+
+pub all : {p q : Page} (s : List ℕ) (i : ℕ) → length s ≤ i → Writes p (take i s) q → Writes p s q
+all s i h a = put (take_all i s h) a
+
+-- a whole text, from the start of the buffer
+pub page_printed : {p q : Page} {text out out' : List ℕ} → Writes p text q → p.at ≡ 0 → p.out.now ≡ out → q.out.now ≡ out' → Printing text q.at out out'
+page_printed {p} {q} {text} {out} x e f g = printing (rw (e, f, g) at x.wrote)

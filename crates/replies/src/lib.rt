@@ -15,5 +15,12 @@ pub struct Reply {
     pub means: usize,
 }
 
-pub mod write; // write.rt: pieces of a text in a lent buffer
+// A lent buffer, and the place in it where the next piece of a text goes.
+#[derive(Drop)]
+pub struct Page<'a> {
+    pub out: &'a mut [u8],
+    pub at: usize,
+}
+
+pub mod write; // write.rt: pieces of a text on a page
 pub mod printed; // printed.rt: the text of a reply

@@ -268,7 +268,7 @@ decimal_reads zero h = decimal_zero_reads
 decimal_reads (suc n) h = decimal_is (nat_text (suc n)) (no_zero 20 (suc n) (omega arith) (below_20 (suc n) h)) ∙ decimal_steps 20 (suc n) (below_20 (suc n) h) h
 
 -- any two counts of digits that are enough give the same text
-enough : (d e n : ℕ) → 1 ≤ n → n < 10 ^ d → n < 10 ^ e → decimal_text d n ≡ decimal_text e n
+pub enough : (d e n : ℕ) → 1 ≤ n → n < 10 ^ d → n < 10 ^ e → decimal_text d n ≡ decimal_text e n
 enough zero e n p h k = absurd (omega (arith, p, h))
 enough (suc d) zero n p h k = absurd (omega (arith, p, k))
 enough (suc d) (suc e) n p h k = go (ltb n 10) refl (enough d e (n / 10))
