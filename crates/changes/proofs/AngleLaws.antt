@@ -1,18 +1,19 @@
 -- 2026-06: which answers change, as specs/NoAngle.antt states it (`angles_only`). Assumes nothing.
-use Prim.Native.Nat.{ℕ, suc, ◌+◌, ◌<◌}
+use Prim.Native.Nat.{ℕ, suc, ◌+◌}
 use mathlib.Core.Path.{◌≡◌, refl, sym, ap, ap₂, ◌∙◌}
 use mathlib.Core.Bool.{Bool, true, false, cond, not, ◌&&◌}
 use mathlib.Core.List.{List, [], ◌∷◌}
-use native.Mathlib.Omega.{arith}
-use lib.Dec.{leb, eqb}
-use borrow.Author.Tests.{eqb-false, lt-ltb}
+use lib.Dec.{leb}
+use borrow.Author.Tests.{lt-ltb}
+use Rattle.std.specs.Prelude.{Option, None, Some, is_some}
 use Rattle.terms.proofs.CaseLaws.{and_true}
+use Rattle.lines.specs.Fields.{or_zero}
 use Rattle.layout.specs.declared.Head.{Head}
 use Rattle.layout.specs.Layout.{question1, term_lines, sheet_ops}
 use Rattle.questions.specs.declared.Asked.TheVariants.{Two, Three, Four}
-use Rattle.questions.specs.Verdict.{Verdict}
-use Rattle.questions.specs.Verdict.{RefusedAt, Passed}
-use Rattle.questions.specs.Questions.{question5, question6, question7, refused_or, line_of, fault_of, first_fault, by_line, room_verdict, verdict}
+use Rattle.questions.specs.Verdict.{Verdict, RefusedAt, Passed}
+use Rattle.questions.specs.Questions.{question5, question6, question7, refused_or, refused_by, line_of, fault_of, first_fault, by_line, room_verdict, verdict}
+use Rattle.questions.proofs.LineLaws.{Above, line_above, laid_above}
 use Rattle.changes.specs.NoAngle.{unasked, earlier, broken_line, no_angle, AnglesOnly}
 use Rattle.changes.proofs.ComparedLaws.{and_false, raised, RunsAlike, IsRaised, compared}
 
@@ -28,7 +29,7 @@ late_walk p q k [] v h = h
 late_walk p q k (a ∷ l) v h = go (p a) (q a) (late_walk p q (suc k) l v h)
   where
     go : (x y : Bool) → early (first_fault (λ a. fault_of (p a) (q a)) (suc k) l v) ≡ false
-        → early (cond (eqb (fault_of x y) 0) (first_fault (λ a. fault_of (p a) (q a)) (suc k) l v) (RefusedAt (fault_of x y) k)) ≡ false
+        → early (refused_by (fault_of x y) k (first_fault (λ a. fault_of (p a) (q a)) (suc k) l v)) ≡ false
     go true true ih = ih
     go true false ih = refl
     go false true ih = refl
@@ -51,32 +52,27 @@ module _ (h : Head) (ls : List (List ℕ)) where
   -- 11 is put to what 1 to 4 pass
   here : (v : Verdict) → early v ≡ false → refused_or 11 (broken_line h ls) v ≡ raised no_angle h ls v
   unfolding early
-  here (RefusedAt n k) e = go (eqb (broken_line h ls) 0)
+  here (RefusedAt n k) e = go (broken_line h ls)
     where
-      go : (b : Bool) → cond b (RefusedAt n k) (RefusedAt 11 (broken_line h ls)) ≡ cond (not b && not (earlier n k)) (RefusedAt 11 (broken_line h ls)) (RefusedAt n k)
-      go true = refl
-      go false = sym (ap (λ (t : Bool). cond (not t) (RefusedAt 11 (broken_line h ls)) (RefusedAt n k)) e)
-  here Passed e = go (eqb (broken_line h ls) 0)
+      go : (o : Option ℕ) → refused_or 11 o (RefusedAt n k) ≡ cond (is_some o && not (earlier n k)) (RefusedAt 11 (or_zero o)) (RefusedAt n k)
+      go None = refl
+      go (Some m) = sym (ap (λ (t : Bool). cond (not t) (RefusedAt 11 m) (RefusedAt n k)) e)
+  here Passed e = go (broken_line h ls)
     where
-      go : (b : Bool) → cond b Passed (RefusedAt 11 (broken_line h ls)) ≡ cond (not b && true) (RefusedAt 11 (broken_line h ls)) Passed
-      go true = refl
-      go false = refl
+      go : (o : Option ℕ) → refused_or 11 o Passed ≡ cond (is_some o && true) (RefusedAt 11 (or_zero o)) Passed
+      go None = refl
+      go (Some m) = refl
 
   -- 1 to 4 refuse as before
-  past : (n a : ℕ) (v w : Verdict) → (leb 1 n && leb n 4) ≡ true → w ≡ raised no_angle h ls v → refused_or n a w ≡ raised no_angle h ls (refused_or n a v)
-  past n a v w e f = go (eqb a 0) refl
-    where
-      holds : (b : Bool) → earlier n a ≡ true → RefusedAt n a ≡ cond (b && not (earlier n a)) (RefusedAt 11 (broken_line h ls)) (RefusedAt n a)
-      holds b g = sym (ap (λ (t : Bool). cond (b && not t) (RefusedAt 11 (broken_line h ls)) (RefusedAt n a)) g ∙ ap (λ (t : Bool). cond t (RefusedAt 11 (broken_line h ls)) (RefusedAt n a)) (and_false b))
-
-      pos : (m : ℕ) → (m ≡ 0 → ⊥) → 0 < m
-      pos m k = omega arith
-
-      go : (b : Bool) → eqb a 0 ≡ b → cond b w (RefusedAt n a) ≡ raised no_angle h ls (cond b v (RefusedAt n a))
-      go true z = f
-      go false z =
-          let g = and_true (leb 1 n) (leb n 4) e in
-          holds (not (eqb (broken_line h ls) 0)) (ap₂ ◌&&◌ g.0 (ap₂ ◌&&◌ g.1 (lt-ltb 0 a (pos a (eqb-false a 0 z)))))
+  past : (n : ℕ) (a : Option ℕ) (v w : Verdict) → (leb 1 n && leb n 4) ≡ true → Above a → w ≡ raised no_angle h ls v
+      → refused_or n a w ≡ raised no_angle h ls (refused_or n a v)
+  past n None v w e l f = f
+  past n (Some k) v w e l f =
+      let g = and_true (leb 1 n) (leb n 4) e in
+      let t : earlier n k ≡ true = ap₂ ◌&&◌ g.0 (ap₂ ◌&&◌ g.1 (lt-ltb 0 k l)) in
+      let b = is_some (broken_line h ls) in
+      let m = or_zero (broken_line h ls) in
+      sym (ap (λ (x : Bool). cond (b && not x) (RefusedAt 11 m) (RefusedAt n k)) t ∙ ap (λ (x : Bool). cond x (RefusedAt 11 m) (RefusedAt n k)) (and_false b))
 
 verdict_raised : IsRaised no_angle
 unfolding verdict unasked
@@ -85,14 +81,14 @@ verdict_raised h ls rows places =
     let b = line_of Two h ls in
     let c = line_of Three h ls in
     let d = line_of Four h ls in
-    past h ls 1 (question1 h ls) (refused_or 2 b (refused_or 3 c (refused_or 4 d v))) _ refl
-    (past h ls 2 b (refused_or 3 c (refused_or 4 d v)) _ refl
-    (past h ls 3 c (refused_or 4 d v) _ refl
-    (past h ls 4 d v _ refl (here h ls v (late_lines h ls (room_verdict h rows places) (late_room h rows places))))))
+    past h ls 1 (question1 h ls) (refused_or 2 b (refused_or 3 c (refused_or 4 d v))) _ refl (laid_above h ls)
+    (past h ls 2 b (refused_or 3 c (refused_or 4 d v)) _ refl (line_above Two h ls)
+    (past h ls 3 c (refused_or 4 d v) _ refl (line_above Three h ls)
+    (past h ls 4 d v _ refl (line_above Four h ls) (here h ls v (late_lines h ls (room_verdict h rows places) (late_room h rows places))))))
 
 -- a run's refusal stands at line 0
 runs_alike : RunsAlike no_angle
-runs_alike h ls n = ap (λ (t : Bool). not (eqb (broken_line h ls) 0) && not t) (ap (λ (t : Bool). leb 1 n && t) (and_false (leb n 4)) ∙ and_false (leb 1 n))
+runs_alike h ls n = ap (λ (t : Bool). is_some (broken_line h ls) && not t) (ap (λ (t : Bool). leb 1 n && t) (and_false (leb n 4)) ∙ and_false (leb 1 n))
 
 pub angles_only : AnglesOnly
 angles_only = compared no_angle runs_alike verdict_raised

@@ -13,8 +13,7 @@ use Rattle.dynamics.specs.Turn.{Stage, refused, going, Outcome}
 use Rattle.layout.specs.declared.Head.{Head}
 use Rattle.layout.specs.Layout.{head_of, sheet_ops}
 use Rattle.replies.specs.Printed.{printed}
-use Rattle.questions.specs.Verdict.{Verdict}
-use Rattle.questions.specs.Verdict.{RefusedAt, Passed}
+use Rattle.questions.specs.Verdict.{Verdict, RefusedAt, Passed}
 use Rattle.questions.specs.Questions.{verdict}
 use Rattle.sheet.specs.Answer.{refusal, run_of, reply_run, reply_to, reply_of, means_to, printed_of, LeavesBy}
 use Rattle.sheet.specs.Screen.{bench}

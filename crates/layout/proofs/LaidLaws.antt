@@ -1,6 +1,6 @@
 -- A sheet that is laid out has as many lines as its counts say. Assumes nothing.
 use mathlib.Core.Path.{◌≡◌, refl, sym, ◌∙◌}
-use Prim.Native.Nat.{ℕ, suc, ◌+◌, ◌-◌, ◌≤◌}
+use Prim.Native.Nat.{ℕ, suc, ◌+◌, ◌-◌, ◌≤◌, ◌<◌}
 use native.Mathlib.Omega.{arith}
 use mathlib.Core.Bool.{Bool, true, false, cond, ◌&&◌, false≢true}
 use mathlib.Core.List.{List, [], ◌∷◌}
@@ -64,6 +64,24 @@ some_none k h = cc
 cond_none : {A : Type 0} (b : Bool) (r : Option A) (k : A) → cond b r (Some k) ≡ None → (b ≡ true) × (r ≡ None)
 cond_none true r k h = (refl, h)
 cond_none false r k h = absurd (some_none k h)
+
+-- a line that is told is counted from 1
+bad_above : (t o : ℕ) (ls : List (List ℕ)) (k j : ℕ) → bad_line t o ls (suc k) ≡ Some j → 0 < j
+unfolding bad_line
+bad_above t o [] k j h = let e : suc k ≡ j = cc in omega arith
+bad_above t o (p ∷ []) k j h = go (is_beyond (kind t o (suc k)) && eqb (length p) 0) h
+  where
+    go : (b : Bool) → cond b None (Some (suc k)) ≡ Some j → 0 < j
+    go true h = absurd (some_none j (sym h))
+    go false h = let e : suc k ≡ j = cc in omega arith
+bad_above t o (p ∷ q ∷ ps) k j h = go (is_laid_out (kind t o (suc k)) p) h (bad_above t o (q ∷ ps) (suc k) j)
+  where
+    go : (b : Bool) → cond b (bad_line t o (q ∷ ps) (suc (suc k))) (Some (suc k)) ≡ Some j → (bad_line t o (q ∷ ps) (suc (suc k)) ≡ Some j → 0 < j) → 0 < j
+    go true h ih = ih h
+    go false h ih = let e : suc k ≡ j = cc in omega arith
+
+pub question1_above : (h : Head) (ls : List (List ℕ)) (j : ℕ) → question1 h ls ≡ Some j → 0 < j
+question1_above h ls j e = bad_above h.terms h.ops ls 0 j e
 
 line_count : (t o : ℕ) (ls : List (List ℕ)) (k : ℕ) → suc k ≤ 8 + t + o → bad_line t o ls (suc k) ≡ None → length ls + k ≡ 8 + t + o
 unfolding bad_line

@@ -36,8 +36,7 @@ use Rattle.layout.specs.declared.Head.{Head}
 use Rattle.layout.specs.Layout.{head_of, sheet_ops}
 use Rattle.replies.specs.declared.Reply.{Reply}
 use Rattle.replies.specs.Printed.{z_lines, printed}
-use Rattle.questions.specs.Verdict.{Verdict}
-use Rattle.questions.specs.Verdict.{RefusedAt, Passed}
+use Rattle.questions.specs.Verdict.{Verdict, RefusedAt, Passed}
 use Rattle.questions.specs.Questions.{verdict}
 use Rattle.sheet.specs.Answer.{task_of, refusal, reply_run, means_run, means_after, Answered}
 use Rattle.sheet.specs.Answer as A

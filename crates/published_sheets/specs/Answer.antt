@@ -16,8 +16,7 @@ use Rattle.layout.specs.declared.Head.{Head}
 use Rattle.layout.specs.Layout.{head_of, sheet_ops}
 use Rattle.replies.specs.declared.Reply.{Reply}
 use Rattle.replies.specs.Printed.{printed}
-use Rattle.questions.specs.Verdict.{Verdict}
-use Rattle.questions.specs.Verdict.{RefusedAt, Passed}
+use Rattle.questions.specs.Verdict.{Verdict, RefusedAt, Passed}
 use Rattle.questions.specs.Questions.{verdict}
 use Rattle.sheet.specs.Answer.{task_of, refusal, reply_run, means_run, means_after, Untouched, Answered}
 use Rattle.sheet.specs.Screen as B

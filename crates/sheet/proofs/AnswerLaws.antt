@@ -30,8 +30,7 @@ use Rattle.layout.specs.Loaded.{OpsLoaded, LinesLoaded}
 use Rattle.layout.proofs.LoadLaws.{rows_hold, ops_loaded, lines_loaded, lines_keys_long, lines_weights_long}
 use Rattle.replies.specs.declared.Reply.{Reply}
 use Rattle.questions.specs.declared.Asked.TheVariants.{Two}
-use Rattle.questions.specs.Verdict.{Verdict}
-use Rattle.questions.specs.Verdict.{RefusedAt, Passed}
+use Rattle.questions.specs.Verdict.{Verdict, RefusedAt, Passed}
 use Rattle.questions.specs.Questions.{question2, line_of, refused_or, verdict}
 use Rattle.sheet.specs.Answer.{limits_of, refusal, task_of, run_of, reply_to, reply_of, LeavesBy, Leaves, Answered}
 use Rattle.questions.specs.Asking.{table_ops, Sound, early_verdict, later_verdict}

@@ -22,8 +22,7 @@ use Rattle.layout.specs.Layout.{head_of}
 use Rattle.replies.specs.declared.Reply.{Reply}
 use Rattle.replies.specs.Printed.{int_text, real_text, field, z_lines, printed}
 use Rattle.replies.specs.Written.{Printing}
-use Rattle.questions.specs.Verdict.{Verdict}
-use Rattle.questions.specs.Verdict.{RefusedAt, Passed}
+use Rattle.questions.specs.Verdict.{Verdict, RefusedAt, Passed}
 use Rattle.questions.specs.Questions.{verdict}
 use Rattle.sheet.specs.Answer.{refusal, run_of, task_of, reply_to, means_run, means_to, printed_of}
 use Rattle.sheet.specs.Running.{means_count}

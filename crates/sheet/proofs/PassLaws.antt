@@ -1,5 +1,5 @@
 -- What a sheet that passes every question before the run has: its counts are in bounds, and its values pass what crate runs asks. Assumes nothing.
-use mathlib.Core.Path.{◌≡◌, refl, ap, ap₂, ◌∙◌, subst}
+use mathlib.Core.Path.{◌≡◌, refl, ap, ap₂, ◌∙◌}
 use Prim.Native.Nat.{ℕ, suc, ◌+◌, ◌*◌, ◌≤◌, ◌<◌}
 use native.Mathlib.Omega.{arith}
 use mathlib.Core.Bool.{Bool, true, false, cond, ◌&&◌}
@@ -7,7 +7,8 @@ use mathlib.Core.List.{List, [], ◌∷◌, map}
 use lib.Dec.{ltb, leb, eqb}
 use lib.ListN.{length, take, drop, get_or, length-map}
 use lib.Ieee.{eq}
-use borrow.Author.Tests.{leb-true, eqb-true, eqb-false}
+use borrow.Author.Tests.{leb-true, eqb-true}
+use Rattle.std.specs.Prelude.{Option, None, Some}
 use Rattle.numbers.specs.Constants.{one64}
 use Rattle.numbers.specs.Tests.{is_finite}
 use Rattle.words.specs.Keys.{width_of}
@@ -29,30 +30,19 @@ use Rattle.layout.specs.declared.Head.{Head}
 use Rattle.layout.specs.Layout.{head_of, question1, term_lines, sheet_ops}
 use Rattle.layout.proofs.LaidLaws.{term_lines_length, op_list_length}
 use Rattle.questions.specs.declared.Asked.TheVariants.{Two, Three, Four, Eleven}
-use Rattle.questions.specs.Verdict.{Verdict}
-use Rattle.questions.specs.Verdict.{RefusedAt, Passed}
+use Rattle.questions.specs.Verdict.{Verdict, RefusedAt, Passed}
 use Rattle.questions.specs.Questions.{Question, question2, question3, question4, question11, question5, question6, question7}
-use Rattle.questions.specs.Questions.{count_fits, weight_fits, channel_fits, places_fit, ◌or_else◌, unless, first_of, head_line, ops_line, first_no, refused_or, line_of, fault_of, first_fault, op_fault, room_verdict, verdict}
+use Rattle.questions.specs.Questions.{count_fits, weight_fits, channel_fits, places_fit, ◌or_else◌, unless, first_of, head_line, ops_line, first_no, refused_or, refused_by, line_of, fault_of, first_fault, op_fault, room_verdict, verdict}
 use Rattle.sheet.specs.Answer.{task_of}
 
 -- ---- the verdict
-abbrev marked : Verdict → Type 0
-marked (RefusedAt n k) = Unit {0}
-marked Passed = ⊥
-
-not_passed : (n k : ℕ) → RefusedAt n k ≡ Passed → ⊥
-not_passed n k e = subst marked e tt
-
-refused_none : (n line : ℕ) (v : Verdict) → refused_or n line v ≡ Passed → (line ≡ 0) × (v ≡ Passed)
-refused_none n line v h = go (eqb line 0) refl h
-  where
-    go : (b : Bool) → eqb line 0 ≡ b → cond b v (RefusedAt n line) ≡ Passed → (line ≡ 0) × (v ≡ Passed)
-    go true e h = (eqb-true line 0 e, h)
-    go false e h = absurd (not_passed n line h)
+refused_none : (n : ℕ) (line : Option ℕ) (v : Verdict) → refused_or n line v ≡ Passed → (line ≡ None) × (v ≡ Passed)
+refused_none n None v h = (refl, h)
+refused_none n (Some k) v h = absurd (cc)
 
 last_passed : (b : Bool) → cond b Passed (RefusedAt 7 0) ≡ Passed → b ≡ true
 last_passed true h = refl
-last_passed false h = absurd (not_passed 7 0 h)
+last_passed false h = absurd (cc)
 
 -- a walk line by line that no line ends: neither question fails at any
 faults_none : {A : Type 0} (p q : A → Bool) (k : ℕ) (l : List A) (v : Verdict) → first_fault (λ a. fault_of (p a) (q a)) k l v ≡ Passed
@@ -61,13 +51,12 @@ unfolding first_fault every
 faults_none p q k [] v h = (refl, (refl, h))
 faults_none p q k (a ∷ l) v h = go (p a) (q a) h (faults_none p q (suc k) l v)
   where
-    go : (x y : Bool) → cond (eqb (fault_of x y) 0) (first_fault (λ a. fault_of (p a) (q a)) (suc k) l v) (RefusedAt (fault_of x y) k) ≡ Passed
+    go : (x y : Bool) → refused_by (fault_of x y) k (first_fault (λ a. fault_of (p a) (q a)) (suc k) l v) ≡ Passed
         → (first_fault (λ a. fault_of (p a) (q a)) (suc k) l v ≡ Passed → (every p l ≡ true) × ((every q l ≡ true) × (v ≡ Passed)))
         → ((x && every p l) ≡ true) × (((y && every q l) ≡ true) × (v ≡ Passed))
     go true true h f = f h
-    go true false h f = absurd (not_passed _ k h)
-    go false true h f = absurd (not_passed _ k h)
-    go false false h f = absurd (not_passed _ k h)
+    go true false h f = absurd (cc)
+    go false y h f = absurd (cc)
 
 -- each answer is yes
 pub record Yes (q : Question) (ls : List TermLine) (os : List Op) : Type 0 where
@@ -81,11 +70,11 @@ pub record Yes (q : Question) (ls : List TermLine) (os : List Op) : Type 0 where
 
 -- no question fails
 pub record Answers (h : Head) (ls : List (List ℕ)) (rows places : ℕ) : Type 0 where
-  pub laid : question1 h ls ≡ 0
-  pub two : line_of Two h ls ≡ 0
-  pub three : line_of Three h ls ≡ 0
-  pub four : line_of Four h ls ≡ 0
-  pub eleven : line_of Eleven h ls ≡ 0
+  pub laid : question1 h ls ≡ None
+  pub two : line_of Two h ls ≡ None
+  pub three : line_of Three h ls ≡ None
+  pub four : line_of Four h ls ≡ None
+  pub eleven : line_of Eleven h ls ≡ None
   pub five : Yes (question5 h) (term_lines h ls) (sheet_ops h ls)
   pub six : Yes question6 (term_lines h ls) (sheet_ops h ls)
   pub room : question7 h rows places ≡ true
@@ -112,30 +101,24 @@ answers_of h ls rows places e =
     }
 
 -- ---- a question that no line fails
-not_zero : (k : ℕ) → suc k ≡ 0 → ⊥
-not_zero k h = omega arith
+neither : (a b : Option ℕ) → a or_else b ≡ None → (a ≡ None) × (b ≡ None)
+neither None b h = (refl, h)
+neither (Some k) b h = absurd (cc)
 
-neither : (a b : ℕ) → a or_else b ≡ 0 → (a ≡ 0) × (b ≡ 0)
-neither a b h = go (eqb a 0) refl h
-  where
-    go : (t : Bool) → eqb a 0 ≡ t → cond t b a ≡ 0 → (a ≡ 0) × (b ≡ 0)
-    go true e h = (eqb-true a 0 e, h)
-    go false e h = absurd (eqb-false a 0 e h)
-
-unless_none : (b : Bool) (k : ℕ) → unless b (suc k) ≡ 0 → b ≡ true
+unless_none : (b : Bool) (k : ℕ) → unless b k ≡ None → b ≡ true
 unless_none true k h = refl
-unless_none false k h = absurd (not_zero k h)
+unless_none false k h = absurd (cc)
 
-first_none : {A : Type 0} (p : A → Bool) (k : ℕ) (l : List A) → first_of p (suc k) l ≡ 0 → every p l ≡ true
+first_none : {A : Type 0} (p : A → Bool) (k : ℕ) (l : List A) → first_of p k l ≡ None → every p l ≡ true
 unfolding first_of every
 first_none p k [] h = refl
 first_none p k (a ∷ l) h = go (p a) h (first_none p (suc k) l)
   where
-    go : (b : Bool) → cond b (first_of p (suc (suc k)) l) (suc k) ≡ 0 → (first_of p (suc (suc k)) l ≡ 0 → every p l ≡ true) → (b && every p l) ≡ true
+    go : (b : Bool) → cond b (first_of p (suc k) l) (Some k) ≡ None → (first_of p (suc k) l ≡ None → every p l ≡ true) → (b && every p l) ≡ true
     go true h f = f h
-    go false h f = absurd (not_zero k h)
+    go false h f = absurd (cc)
 
-pub yes_of : (q : Question) (t : ℕ) (ls : List TermLine) (os : List Op) → first_no q t ls os ≡ 0 → Yes q ls os
+pub yes_of : (q : Question) (t : ℕ) (ls : List TermLine) (os : List Op) → first_no q t ls os ≡ None → Yes q ls os
 yes_of q t ls os h =
     let a = neither (head_line q) (first_of q.term 7 ls or_else ops_line q t os) h in
     let b = neither (first_of q.term 7 ls) (ops_line q t os) a.1 in
@@ -144,13 +127,13 @@ yes_of q t ls os h =
     let e = neither (unless q.epsilon 3) (unless q.limit 5 or_else unless q.terms 6) d.1 in
     let f = neither (unless q.limit 5) (unless q.terms 6) e.1 in
     record {
-      qubits = unless_none q.qubits 0 d.0;
-      epsilon = unless_none q.epsilon 2 e.0;
-      limit = unless_none q.limit 4 f.0;
-      terms = unless_none q.terms 5 f.1;
-      term = first_none q.term 6 ls b.0;
-      ops = unless_none q.ops (6 + t) (subst (λ (n : ℕ). unless q.ops n ≡ 0) (omega arith) c.0);
-      op = first_none q.op (7 + t) os (subst (λ (n : ℕ). first_of q.op n os ≡ 0) (omega arith) c.1);
+      qubits = unless_none q.qubits 1 d.0;
+      epsilon = unless_none q.epsilon 3 e.0;
+      limit = unless_none q.limit 5 f.0;
+      terms = unless_none q.terms 6 f.1;
+      term = first_none q.term 7 ls b.0;
+      ops = unless_none q.ops (7 + t) c.0;
+      op = first_none q.op (8 + t) os c.1;
     }
 
 -- ---- the counts of a sheet that passed, and the rows lent to it
@@ -222,7 +205,7 @@ module _ (h : Head) (ls : List (List ℕ)) (rows places : ℕ) (a : Answers h ls
   abbrev width : ℕ
   width = width_of h.qubits
 
-  line_yes : (q : Question) → first_no q h.terms (term_lines h ls) (sheet_ops h ls) ≡ 0 → Yes q (term_lines h ls) (sheet_ops h ls)
+  line_yes : (q : Question) → first_no q h.terms (term_lines h ls) (sheet_ops h ls) ≡ None → Yes q (term_lines h ls) (sheet_ops h ls)
   line_yes q e = yes_of q h.terms (term_lines h ls) (sheet_ops h ls) e
 
   lines_are : length (map (word_line width) (term_lines h ls)) ≡ h.terms

@@ -22,8 +22,7 @@ use Rattle.layout.specs.Layout.{head_of, term_lines, sheet_ops}
 use Rattle.replies.specs.declared.Reply.{Reply}
 use Rattle.replies.specs.Printed.{printed}
 use Rattle.replies.specs.Written.{Printing}
-use Rattle.questions.specs.Verdict.{Verdict}
-use Rattle.questions.specs.Verdict.{RefusedAt, Passed}
+use Rattle.questions.specs.Verdict.{Verdict, RefusedAt, Passed}
 use Rattle.questions.specs.Questions.{question2, verdict}
 use Rattle.sheet.specs.Answer.{refusal, run_of, task_of, reply_run, reply_to, reply_of, means_after, means_run, means_to, LeavesBy, Answered, printed_of}
 use Rattle.questions.specs.Asking.{early_verdict}

@@ -19,8 +19,7 @@ use Rattle.lines.specs.TermLines.{word_line}
 use Rattle.layout.specs.Layout.{head_of, term_lines, sheet_ops}
 use Rattle.replies.specs.declared.Reply.{Reply}
 use Rattle.replies.specs.Printed.{printed}
-use Rattle.questions.specs.Verdict.{Verdict}
-use Rattle.questions.specs.Verdict.{RefusedAt, Passed}
+use Rattle.questions.specs.Verdict.{Verdict, RefusedAt, Passed}
 use Rattle.questions.specs.Questions.{verdict}
 
 -- ---- the run of a sheet

@@ -13,7 +13,7 @@ use Rattle.words.specs.declared.Gate.{Gate}
 use Rattle.words.specs.Keys.{Words}
 use Rattle.words.specs.Gates.{has_two_targets}
 use Rattle.terms.specs.declared.Axis.{Axis}
-use Rattle.terms.specs.declared.Axis.TheVariants.{Z}
+use Rattle.terms.specs.declared.Axis.TheVariants.{Z, Zz}
 use Rattle.terms.specs.declared.ChannelAction.{ChannelAction}
 use Rattle.terms.specs.declared.NoiseChannel.{NoiseChannel}
 use Rattle.terms.specs.Lists.{All}
@@ -40,9 +40,14 @@ use Rattle.ops.specs.Ops.{targets, on_words}
 use Rattle.dynamics.specs.Acts.{turned, noisy, act_on, act, met}
 use Rattle.turns.specs.Told.{Applied}
 use Rattle.dynamics.proofs.ActLaws.{met_unmet}
-use Rattle.dynamics.proofs.KeptLaws.{words_in, axis_words}
+use Rattle.dynamics.proofs.KeptLaws.{words_in, axis_words, axis_on, pair_on}
+use Rattle.terms.proofs.TargetLaws.{kind_of, action_kind}
 
 -- ---- the rows after each kind of op
+
+axis_key : (w : ℕ) (x : Axis) → on_words w (axis_targets x) ≡ true → on_key w x ≡ true
+axis_key w (Z q) h = axis_on w q h
+axis_key w (Zz a b) h = pair_on w a b h
 
 module _ (w n : ℕ) (ws : List ℕ) (cs : List Float) where
   abbrev here : List Term
@@ -83,20 +88,32 @@ module _ (w n : ℕ) (ws : List ℕ) (cs : List Float) where
           → Applied w n (gate_targets g a b) (map (conjugated w g a b) here) r ws ws' cs cs'
       gate_applied g a b on S = stepped (gate_targets g a b) _ on (words_in w (has_two_targets g) a b on) S.0 S.1 (length-map here (conjugated w g a b) ∙ long) (conjugated_width g w a b here here_width)
 
-      pub axis_applied : (x : Axis) (sin cos : Float) → on_words w (axis_targets x) ≡ true → on_key w x ≡ true → Distinct here
+      pub axis_applied : (x : Axis) (sin cos : Float) {on : Bool} → on ≡ on_words w (axis_targets x) → on ≡ true → Distinct here
           → (r.met ≡ met_in w (axis_targets x) n ws cs) × Rotated w n x sin cos r.count ws ws' cs cs'
           → Applied w n (axis_targets x) (turned w x sin cos here) r ws ws' cs cs'
-      axis_applied x sin cos on key d R = grown (axis_targets x) _ on (axis_words w x on) R.0 (R.1.from_old key d)
+      axis_applied x sin cos eo h d R = let on = sym eo ∙ h in grown (axis_targets x) _ on (axis_words w x on) R.0 (R.1.from_old (axis_key w x on) d)
           (let c = rotated_count w (met_by x) (partner_by w x) sin cos here in omega (arith, long, c)) (axis_width w x sin cos here here_width)
 
-      pub channel_applied : (k : ChannelKind) (a b : ℕ) (c : NoiseChannel) (t : ChannelAction) → (action_of c).kind ≡ k → let qs = kind_targets k a b in on_words w qs ≡ true → t ≡ action_of c
+      pub channel_applied : (a b : ℕ) (c : NoiseChannel) (t : ChannelAction) {two on : Bool} → t ≡ action_of c → two ≡ acts_on_two t.kind → on ≡ on_words w (cond two (a ∷ b ∷ []) (a ∷ [])) → on ≡ true
           → (r.met ≡ met_in w (kind_targets t.kind a b) n ws cs) × Grown w n (channeled w a b t here) r.count ws ws' cs cs'
-          → Applied w n qs (noisy w a b c here) r ws ws' cs cs'
-      channel_applied k a b c t kind on e G =
-          let qs = kind_targets k a b in
-          let m = G.0 ∙ ap (λ (u : ChannelAction). met_in w (kind_targets u.kind a b) n ws cs) e ∙ ap (λ (j : ChannelKind). met_in w (kind_targets j a b) n ws cs) kind in
-          subst (λ (u : ChannelAction). Applied w n qs (channeled w a b u here) r ws ws' cs cs') e
-          (grown qs _ on (words_in w (acts_on_two k) a b on) m G.1 (let s = channeled_count w a b t here in omega (arith, long, s)) (channeled_width w a b t here here_width))
+          → Applied w n (kind_targets (action_of c).kind a b) (noisy w a b c here) r ws ws' cs cs'
+      channel_applied a b c t e et eo h G =
+          let qs = kind_targets t.kind a b in
+          let on : on_words w qs ≡ true = ap (λ (x : Bool). on_words w (cond x (a ∷ b ∷ []) (a ∷ []))) (sym et) ∙ sym eo ∙ h in
+          subst (λ (u : ChannelAction). Applied w n (kind_targets u.kind a b) (channeled w a b u here) r ws ws' cs cs') e
+          (grown qs _ on (words_in w (acts_on_two t.kind) a b on) G.0 G.1 (let s = channeled_count w a b t here in omega (arith, long, s)) (channeled_width w a b t here here_width))
+
+  -- a channel that the words do not have the targets of
+  pub channel_skipped : (a b : ℕ) (c : NoiseChannel) (t : ChannelAction) {two on : Bool} → t ≡ action_of c → two ≡ acts_on_two t.kind → on ≡ on_words w (cond two (a ∷ b ∷ []) (a ∷ [])) → on ≡ false
+      → Applied w n (kind_targets (action_of c).kind a b) (noisy w a b c here) (record { count = n; met = 0 }) ws ws cs cs
+  channel_skipped a b c t e et eo h =
+      skipped (kind_targets (action_of c).kind a b) (noisy w a b c here)
+      (ap (λ (u : ChannelAction). on_words w (kind_targets u.kind a b)) (sym e) ∙ ap (λ (x : Bool). on_words w (cond x (a ∷ b ∷ []) (a ∷ []))) (sym et) ∙ sym eo ∙ h)
+
+  -- the axis of the case that the code is in
+  pub axis_told : (x y : Axis) (sin cos : Float) {r : Step} {ws' : List ℕ} {cs' : List Float} → y ≡ x → Applied w n (axis_targets x) (turned w x sin cos here) r ws ws' cs cs'
+      → Applied w n (axis_targets y) (turned w y sin cos here) r ws ws' cs cs'
+  axis_told x y sin cos {r} {ws'} {cs'} e H = subst⁻¹ (λ (a : Axis). Applied w n (axis_targets a) (turned w a sin cos here) r ws ws' cs cs') e H
 
 -- ---- the op of the case that the code is in
 -- how many terms it met, and what it made of them
@@ -107,6 +124,12 @@ module _ (w n : ℕ) (op : Op) {r : Step} {ws ws' : List ℕ} {cs cs' : List Flo
   pub acted : Applied w n (targets case) (act_on w case (terms_in (2 * w) n ws cs)) r ws ws' cs cs' → Did w n op r ws ws' cs cs'
   unfolding act met
   acted H = subst⁻¹ (λ (o : Op). Did w n o r ws ws' cs cs') e H
+
+  pub acted_channel : (a b : ℕ) (ch : NoiseChannel) → kind_targets (kind_of ch) a b ≡ targets case → noisy w a b ch (terms_in (2 * w) n ws cs) ≡ act_on w case (terms_in (2 * w) n ws cs)
+      → Applied w n (kind_targets (action_of ch).kind a b) (noisy w a b ch (terms_in (2 * w) n ws cs)) r ws ws' cs cs' → Did w n op r ws ws' cs cs'
+  acted_channel a b ch et ea H = acted
+      (subst (λ (us : List Term). Applied w n (targets case) us r ws ws' cs cs') ea
+      (subst (λ (qs : List ℕ). Applied w n qs (noisy w a b ch (terms_in (2 * w) n ws cs)) r ws ws' cs cs') (ap (λ (k : ChannelKind). kind_targets k a b) (action_kind ch) ∙ et) H))
 
 module _ (w n : ℕ) (op : Op) (q : ℕ) (s c : Float) {r : Step} {ws ws' : List ℕ} {cs cs' : List Float} where
   pub acted_t : op ≡ T q → s ≡ sine_t → c ≡ cosine_t → Applied w n (q ∷ []) (turned w (Z q) s c (terms_in (2 * w) n ws cs)) r ws ws' cs cs'

@@ -9,7 +9,8 @@ use lib.Dec.{leb, ltb}
 use lib.ListN.{length, get_or, set, take, drop, replicate, length-replicate, replicate-append-replicate}
 use lib.Seq.{take-set-lt, take_at}
 use lib.Ieee.{Float, nan}
-use borrow.Author.Tests.{le-leb, lt-ltb, leb-true, ltb-true}
+use borrow.Author.Tests.{le-leb, lt-ltb}
+use Rattle.std.specs.Prelude.{Ok}
 use Rattle.numbers.specs.Constants.{zero64, one64}
 use Rattle.words.specs.Keys.{Key, Words, flip_of, flip_at, z_at, no_letters}
 use Rattle.words.proofs.KeyLaws.{flip_at_length}
@@ -17,7 +18,6 @@ use Rattle.words.proofs.RowSteps.{row_fits}
 use Rattle.terms.specs.Lists.{All}
 use Rattle.terms.specs.Term.{Term, no_term, OnWidth, Distinct}
 use Rattle.terms.specs.Start.{term_of, merged}
-use Rattle.terms.proofs.CaseLaws.{and_true}
 use Rattle.terms.proofs.AllLaws.{all_at, all_of, all_imp}
 use Rattle.terms.proofs.CountLaws.{merged_count}
 use Rattle.terms.proofs.DistinctLaws.{merged_distinct, merged_width}
@@ -26,19 +26,18 @@ use Rattle.words.specs.Rows.{key_at}
 use Rattle.rows.specs.Rows.{term_at, terms_in, rows_in, words_with, coeffs_with, Room, Stepped, Holds}
 use Rattle.rows.proofs.RowLaws.{length_key}
 use Rattle.rows.proofs.HoldLaws.{hold_wide}
+use Rattle.rows.proofs.StepLaws.{held_rows}
 use Rattle.rows.proofs.ReadLaws.{Keyed, step_holds}
 use Rattle.branches.specs.Started.{Started, lines_of}
 use Rattle.branches.proofs.RotatedLaws.{terms_width}
 use Rattle.ops.specs.declared.Limits.{Limits}
 use Rattle.turns.specs.declared.Tally.{Tally}
-use Rattle.turns.specs.declared.Turned.{Turned}
-use Rattle.turns.specs.declared.Turned.TheVariants.{Going}
-use Rattle.turns.specs.declared.Start.{Start}
-use Rattle.turns.specs.declared.Start.TheVariants.{Lines, Alone, Z}
-use Rattle.dynamics.specs.Turn.{going, state}
-use Rattle.turns.specs.Told.{tally, count_of, NothingMet, Tells}
+use Rattle.turns.specs.declared.Progress.{Progress}
+use Rattle.dynamics.specs.Turn.{Stage, State, refused, going, state}
+use Rattle.dynamics.specs.Runs.{begin}
 use Rattle.dynamics.specs.Outcome.{z_key}
-use Rattle.turns.specs.Given.{start_state, is_there, is_given}
+use Rattle.turns.specs.Told.{tally, Tells}
+use Rattle.turns.proofs.TurnLaws.{emptied}
 
 -- ---- Z at one qubit
 
@@ -108,14 +107,20 @@ module _ (w R : ℕ) (l : Limits) (p : ℕ) (d : Float) {room : Bool} {ts : List
   started_count : r ≡ length ts
   started_count = S.count ∙ ap (λ (b : Bool). cond b (length ts) 0) yes
 
-  started_tells : {out : Turned} → out ≡ Going r (tally p d 0) → Tells w l out ws ws' cs cs' (going (state ts p d 0))
-  started_tells {out} e = record {
-    answer = e ∙ ap (λ (n : ℕ). Going n (tally p d 0)) started_count;
-    rows = subst⁻¹ (λ (o : Turned). Holds (2 * w) (2 * l.limit) (count_of o) ts ws ws' cs cs') e
-        (hold_wide (omega arith) (step_holds w R R 0 as_step rows_yes (omega arith) few keyed));
-    few = le_trans few reach;
-    sound = apart;
-  }
+  held : Holds (2 * w) R r ts ws ws' cs cs'
+  held = step_holds w R R 0 as_step rows_yes (omega arith) few keyed
+
+  started_tells : {out : Progress} → out ≡ record { count = r; tally = tally p d 0 } → Tells w l (Ok out) ws ws' cs cs' (going (state ts p d 0))
+  started_tells {out} e = subst⁻¹ (λ (o : Progress). Tells w l (Ok o) ws ws' cs cs' (going (state ts p d 0))) e
+      (record {
+        told = ap (λ (us : List Term). going (state us p d 0)) held.terms;
+        rows = emptied (hold_wide (omega arith) held);
+        ready = record {
+          few = let c = started_count in omega (arith, c, few, reach);
+          room = subst⁻¹ (λ (x : ℕ). 2 * l.limit ≤ x) (held_rows w held) have;
+          sound = subst⁻¹ Distinct held.terms apart;
+        };
+      })
 
 one_apart : (t : Term) → Distinct (t ∷ [])
 unfolding Distinct
@@ -132,78 +137,52 @@ line_width w n keys h ok i b x =
     subst (OnWidth w) (get_d_tab n (term_at (2 * w) keys cs) i no_term b) (all_at (OnWidth w) (terms_in (2 * w) n keys cs) i no_term (rw length_tab b) all) in
     record { long = at.long; words = at.words }
 
--- the start of the case that the code is in
-module _ (w : ℕ) (l : Limits) (keys : List ℕ) (weights : List Float) (start : Start) where
-  told : {out : Turned} {ws ws' : List ℕ} {cs cs' : List Float} (s : Start) → start ≡ s → Tells w l out ws ws' cs cs' (going (start_state w keys weights s))
-      → Tells w l out ws ws' cs cs' (going (start_state w keys weights start))
-  told {out} {ws} {ws'} {cs} {cs'} s e T = subst⁻¹ (λ (x : Start). Tells w l out ws ws' cs cs' (going (start_state w keys weights x))) e T
+-- the starts
+module _ (w : ℕ) (l : Limits) {out : Progress} {r : ℕ} {ws ws' : List ℕ} {cs cs' : List Float} (have : 2 * l.limit ≤ rows_in w ws cs) where
+  pub lines_tell : (keys : List ℕ) (weights : List Float) → let k = length weights in k ≤ l.limit → k ≤ length keys / (2 * w) → Words keys → out ≡ record { count = r; tally = tally r zero64 0 }
+      → Started (leb k (rows_in w ws cs) && (leb k (length keys / (2 * w)) && leb k k)) w k (merged (lines_of w keys weights k)) r ws ws' cs cs'
+      → Tells w l (Ok out) ws ws' cs cs' (going (begin (merged (lines_of w keys weights k))))
+  lines_tell keys weights fits there ok eo S =
+      let k : ℕ = length weights in
+      let ts : List Term = lines_of w keys weights k in
+      let f : ℕ → Term = λ i. term_of w (key_at (2 * w) keys i) (get_or weights i nan) in
+      let long : length ts ≡ k = length_tab k f in
+      let wide : All (OnWidth w) ts =
+      all_of (OnWidth w) ts no_term (λ i h.
+      let b : i < k = subst (λ (m : ℕ). i < m) long h in
+      subst⁻¹ (OnWidth w) (get_d_tab k f i no_term b) (line_width w k keys there ok i b (get_or weights i nan))) in
+      let few : length (merged ts) ≤ k = subst (λ (m : ℕ). length (merged ts) ≤ m) long (merged_count ts) in
+      let keyed : All (Keyed (2 * w)) (merged ts) = all_imp (OnWidth w) (Keyed (2 * w)) (merged ts) (λ t x. x.long) (merged_width w ts wide) in
+      let yes : (leb k (rows_in w ws cs) && (leb k (length keys / (2 * w)) && leb k k)) ≡ true =
+      λ j. le-leb k (rows_in w ws cs) (omega arith) j && (le-leb k (length keys / (2 * w)) there j && le-leb k k (le_refl k) j) in
+      let count = started_count w k l 0 zero64 S yes fits have few keyed (merged_distinct ts) in
+      started_tells w k l (length (merged ts)) zero64 S yes fits have few keyed (merged_distinct ts)
+      (eo ∙ ap (λ (n : ℕ). record { count = r; tally = tally n zero64 0 }) count)
 
-  given_as : is_given w l.limit keys weights start ≡ true → (s : Start) → start ≡ s → is_there w l.limit keys weights s ≡ true
-  given_as given s e = ap (is_there w l.limit keys weights) (sym e) ∙ (and_true (leb l.limit 1048576) (is_there w l.limit keys weights start) given).1
+  pub alone_tells : (keys : List ℕ) (i : ℕ) → 1 ≤ l.limit → i < length keys / (2 * w) → out ≡ record { count = r; tally = tally r zero64 0 }
+      → Started (leb 1 (rows_in w ws cs) && ltb i (length keys / (2 * w))) w 1 (term_of w (key_at (2 * w) keys i) one64 ∷ []) r ws ws' cs cs'
+      → Tells w l (Ok out) ws ws' cs cs' (going (begin (term_of w (key_at (2 * w) keys i) one64 ∷ [])))
+  unfolding term_of
+  alone_tells keys i fits there eo S =
+      let t : Term = term_of w (key_at (2 * w) keys i) one64 in
+      let long : Keyed (2 * w) t = length_key (2 * w) keys i (row_fits (length keys) w i there) in
+      let yes : (leb 1 (rows_in w ws cs) && ltb i (length keys / (2 * w))) ≡ true = λ j. le-leb 1 (rows_in w ws cs) (omega arith) j && lt-ltb i (length keys / (2 * w)) there j in
+      let count = started_count w 1 l 0 zero64 S yes fits have (le_refl 1) (long, tt) (one_apart t) in
+      started_tells w 1 l 1 zero64 S yes fits have (le_refl 1) (long, tt) (one_apart t) (eo ∙ ap (λ (n : ℕ). record { count = r; tally = tally n zero64 0 }) count)
 
-  -- a limit that a sheet may have
-  pub given_low : is_given w l.limit keys weights start ≡ true → l.limit ≤ 1048576
-  given_low given = leb-true l.limit 1048576 (and_true (leb l.limit 1048576) (is_there w l.limit keys weights start) given).0
-
-  pub z_fits : is_given w l.limit keys weights start ≡ true → (q : ℕ) (t : Tally) → start ≡ Z q t → (w ≤ 4) × (q < 64 * w)
-  z_fits given q t e =
-      let p = and_true (leb 1 l.limit) _ (given_as given (Z q t) e) in
-      let z = and_true (leb w 4) _ p.1 in
-      (leb-true w 4 z.0, ltb-true q (64 * w) z.1)
-
-  module _ (given : is_given w l.limit keys weights start ≡ true) {out : Turned} {r : ℕ} {ws ws' : List ℕ} {cs cs' : List Float} (have : 2 * l.limit ≤ rows_in w ws cs) where
-    pub lines_tell : (k : ℕ) → start ≡ Lines k → Words keys → out ≡ Going r (tally r zero64 0)
-        → Started (leb k (rows_in w ws cs) && (leb k (length keys / (2 * w)) && leb k (length weights))) w k (merged (lines_of w keys weights k)) r ws ws' cs cs'
-        → Tells w l out ws ws' cs cs' (going (start_state w keys weights start))
-    lines_tell k e ok eo S =
-        let p = and_true (leb k l.limit) _ (given_as given (Lines k) e) in
-        let q = and_true (leb k (length keys / (2 * w))) _ p.1 in
-        let fits : k ≤ l.limit = leb-true k l.limit p.0 in
-        let there : k ≤ length keys / (2 * w) = leb-true k _ q.0 in
-        let ts : List Term = lines_of w keys weights k in
-        let f : ℕ → Term = λ i. term_of w (key_at (2 * w) keys i) (get_or weights i nan) in
-        let long : length ts ≡ k = length_tab k f in
-        let wide : All (OnWidth w) ts =
-        all_of (OnWidth w) ts no_term (λ i h.
-        let b : i < k = subst (λ (m : ℕ). i < m) long h in
-        subst⁻¹ (OnWidth w) (get_d_tab k f i no_term b) (line_width w k keys there ok i b (get_or weights i nan))) in
-        let few : length (merged ts) ≤ k = subst (λ (m : ℕ). length (merged ts) ≤ m) long (merged_count ts) in
-        let keyed : All (Keyed (2 * w)) (merged ts) = all_imp (OnWidth w) (Keyed (2 * w)) (merged ts) (λ t x. x.long) (merged_width w ts wide) in
-        let yes : (leb k (rows_in w ws cs) && (leb k (length keys / (2 * w)) && leb k (length weights))) ≡ true =
-        λ j. le-leb k (rows_in w ws cs) (omega arith) j && p.1 j in
-        let count = started_count w k l 0 zero64 S yes fits have few keyed (merged_distinct ts) in
-        told (Lines k) e (started_tells w k l (length (merged ts)) zero64 S yes fits have few keyed (merged_distinct ts)
-        (eo ∙ ap (λ (n : ℕ). Going r (tally n zero64 0)) count))
-
-    pub alone_tells : (i : ℕ) → start ≡ Alone i → out ≡ Going r (tally r zero64 0)
-        → Started (leb 1 (rows_in w ws cs) && ltb i (length keys / (2 * w))) w 1 (term_of w (key_at (2 * w) keys i) one64 ∷ []) r ws ws' cs cs'
-        → Tells w l out ws ws' cs cs' (going (start_state w keys weights start))
-    unfolding term_of
-    alone_tells i e eo S =
-        let p = and_true (leb 1 l.limit) _ (given_as given (Alone i) e) in
-        let fits : 1 ≤ l.limit = leb-true 1 l.limit p.0 in
-        let t : Term = term_of w (key_at (2 * w) keys i) one64 in
-        let long : Keyed (2 * w) t = length_key (2 * w) keys i (row_fits (length keys) w i (ltb-true i _ p.1)) in
-        let yes : (leb 1 (rows_in w ws cs) && ltb i (length keys / (2 * w))) ≡ true = λ j. le-leb 1 (rows_in w ws cs) (omega arith) j && p.1 j in
-        let count = started_count w 1 l 0 zero64 S yes fits have (le_refl 1) (long, tt) (one_apart t) in
-        told (Alone i) e (started_tells w 1 l 1 zero64 S yes fits have (le_refl 1) (long, tt) (one_apart t) (eo ∙ ap (λ (n : ℕ). Going r (tally n zero64 0)) count))
-
-    pub z_tells : (q : ℕ) (t : Tally) {u : Tally} → start ≡ Z q t → out ≡ Going r u → u ≡ tally t.peak t.discarded 0 → Started (leb 1 (rows_in w ws cs)) w 1 (term_of w (z_key w q) one64 ∷ []) r ws ws' cs cs'
-        → Tells w l out ws ws' cs cs' (going (start_state w keys weights start))
-    unfolding term_of
-    z_tells q t e eo eu S =
-        let p = and_true (leb 1 l.limit) _ (given_as given (Z q t) e) in
-        let fits : 1 ≤ l.limit = leb-true 1 l.limit p.0 in
-        let one : Term = term_of w (z_key w q) one64 in
-        let long : Keyed (2 * w) one = flip_at_length (no_letters w) (z_at w q) ∙ length-replicate (2 * w) 0 in
-        told (Z q t) e (started_tells w 1 l t.peak t.discarded S (le-leb 1 (rows_in w ws cs) (omega arith)) fits have (le_refl 1) (long, tt) (one_apart one) (eo ∙ ap (λ (v : Tally). Going r v) eu))
+  pub z_tells : (q : ℕ) (t : Tally) → 1 ≤ l.limit → out ≡ record { count = r; tally = tally t.peak t.discarded 0 } → Started (leb 1 (rows_in w ws cs)) w 1 (term_of w (z_key w q) one64 ∷ []) r ws ws' cs cs'
+      → Tells w l (Ok out) ws ws' cs cs' (going (state (term_of w (z_key w q) one64 ∷ []) t.peak t.discarded 0))
+  unfolding term_of
+  z_tells q t fits eo S =
+      let one : Term = term_of w (z_key w q) one64 in
+      let long : Keyed (2 * w) one = flip_at_length (no_letters w) (z_at w q) ∙ length-replicate (2 * w) 0 in
+      started_tells w 1 l t.peak t.discarded S (le-leb 1 (rows_in w ws cs) (omega arith)) fits have (le_refl 1) (long, tt) (one_apart one) eo
 
 -- no op has met a term at a start
-none_met : (w : ℕ) (keys : List ℕ) (weights : List Float) (start : Start) → (start_state w keys weights start).touched ≡ 0
-none_met w keys weights (Lines k) = refl
-none_met w keys weights (Alone i) = refl
-none_met w keys weights (Z q t) = refl
-
-pub start_untouched : (w : ℕ) (l : Limits) (keys : List ℕ) (weights : List Float) (start : Start) {at : Turned} {ws₀ ws : List ℕ} {cs₀ cs : List Float}
-    → Tells w l at ws₀ ws cs₀ cs (going (start_state w keys weights start)) → NothingMet at
-start_untouched w l keys weights start T = subst⁻¹ NothingMet T.answer (none_met w keys weights start)
+pub none_met : (w : ℕ) (l : Limits) {p : Progress} {ws₀ ws : List ℕ} {cs₀ cs : List Float} (ts : List Term) (k : ℕ) (d : Float)
+    → Tells w l (Ok p) ws₀ ws cs₀ cs (going (state ts k d 0)) → p.tally.touched ≡ 0
+none_met w l {p} ts k d T = ap met T.told
+  where
+    met : Stage State → ℕ
+    met (refused n) = 0
+    met (going s) = s.touched

@@ -1,47 +1,33 @@
 -- How many terms the lines of a fold and the qubits of `all` meet: at most 2^32 each, so that the sums fit 64 bits. Assumes nothing.
 use mathlib.Core.Path.{◌≡◌, refl, subst, subst⁻¹}
-use Prim.Native.Nat.{ℕ, zero, suc, ◌+◌, ◌*◌, ◌^◌, ◌≤◌, ◌<◌}
+use Prim.Native.Nat.{ℕ, zero, suc, ◌+◌, ◌*◌, ◌≤◌}
 use native.Mathlib.Nat.{le_refl, le_trans}
 use native.Mathlib.Omega.{arith}
 use mathlib.Core.Bool.{Bool}
 use mathlib.Core.List.{List, [], ◌∷◌}
 use lib.ListN.{length}
-use lib.Ieee.{Float}
-use Rattle.turns.specs.declared.Ending.{Ending}
-use Rattle.turns.specs.declared.Ending.TheVariants.{Done}
+use Rattle.std.specs.Prelude.{Ok}
 use Rattle.ops.specs.declared.Limits.{Limits}
-use Rattle.turns.specs.declared.Tally.{Tally}
-use Rattle.ops.specs.OpList.{op_list}
-use Rattle.ops.proofs.OpListLaws.{op_list_length}
 use Rattle.ops.specs.declared.Op.{Op}
+use Rattle.turns.specs.declared.Finished.{Finished}
+use Rattle.turns.specs.declared.fold.Totals.{Totals}
 use Rattle.dynamics.specs.Turn.{UnlessRefused, Stage, refused, going, State, Outcome}
 use Rattle.dynamics.specs.Runs.{marked_run}
-use Rattle.turns.specs.Told.{ending_of}
 use Rattle.dynamics.proofs.Alike.{holds_imp, bind_holds}
 use Rattle.dynamics.proofs.CountedRuns.{Met, run_met, run_fits}
-use Rattle.turns.specs.declared.fold.Folded.{Folded}
-use Rattle.turns.specs.declared.fold.Folded.TheVariants.{Ended, Held}
 use Rattle.ops.specs.Task.{Line, Task, width}
 use Rattle.dynamics.specs.Outcome.{nothing_yet, alone, add_line, add_next, fold_lines, z_state, add_z, z_step}
-use Rattle.turns.specs.Means.{all_to, end_touched}
-use Rattle.turns.specs.Folding.{held_in, held_touched}
+use Rattle.turns.specs.SumRuns.{told_by, results_of}
+use Rattle.turns.specs.Means.{all_to}
+use Rattle.turns.specs.Folding.{held}
+use Rattle.turns.proofs.RunLaws.{ends_going}
 
 -- ---- what an answer tells of it
 
-pub ending_met : (n : ℕ) (s : Stage Outcome) {end : Ending} → end ≡ ending_of s → UnlessRefused (Met n) s → end_touched end ≤ n
-ending_met n (refused q) e h = subst⁻¹ (λ (x : Ending). end_touched x ≤ n) e (omega arith)
-ending_met n (going o) e h = subst⁻¹ (λ (x : Ending). end_touched x ≤ n) e h
-
-held_met : (n : ℕ) (at : Folded) → UnlessRefused (Met n) (held_in at) → held_touched at ≤ n
-held_met n (Ended q) h = omega arith
-held_met n (Held m t) h = h
-
--- a run that ends so
-pub done_slack : (b : ℕ) (end : Ending) (x : Float) (n : ℕ) (u : Tally) → end ≡ Done x n u → b + end_touched end < 2 ^ 64 → b + u.touched < 2 ^ 64
-done_slack b end x n u e h = subst (λ (f : Ending). b + end_touched f < 2 ^ 64) e h
-
-pub short_ops : (n : ℕ) (codes : List ℕ) (reals : List Float) → length (op_list n codes reals) ≤ 4096
-short_ops n codes reals = omega (arith, op_list_length n codes reals)
+pub ending_met : (n : ℕ) (s : Stage Outcome) {f : Finished} → told_by (Ok f) ≡ results_of s → UnlessRefused (Met n) s → f.tally.touched ≤ n
+ending_met n s {f} e h =
+    let v = ends_going f s e in
+    subst⁻¹ (λ (k : ℕ). k ≤ n) v.2.touched (subst (UnlessRefused (Met n)) v.1 h)
 
 -- ---- one run, of at most 4,096 ops and at most 1,048,576 terms
 
@@ -73,7 +59,7 @@ module _ (t : Task) (ms : List Bool) (short : length t.ops ≤ 4096) (low : t.li
       widen (refused q) k = tt
       widen (going o) k = omega (arith, k)
 
-  pub fold_met : (ls : List Line) (at : Folded) → held_in at ≡ fold_lines t ms ls nothing_yet → held_touched at ≤ length ls * 4294967296
-  fold_met ls at e = held_met (length ls * 4294967296) at
-      (subst⁻¹ (UnlessRefused (Met (length ls * 4294967296))) e
-      (holds_imp (Met (length ls * 4294967296 + 0)) (Met (length ls * 4294967296)) (fold_lines t ms ls nothing_yet) (λ o h. omega (arith, h)) (lines_met ls nothing_yet 0 (le_refl 0))))
+  pub fold_met : (ls : List Line) (a : Totals) → going (held a) ≡ fold_lines t ms ls nothing_yet → a.tally.touched ≤ length ls * 4294967296
+  fold_met ls a e =
+      let P : Stage Outcome → Type 0 = UnlessRefused (Met (length ls * 4294967296)) in
+      subst⁻¹ P e (holds_imp (Met (length ls * 4294967296 + 0)) (Met (length ls * 4294967296)) (fold_lines t ms ls nothing_yet) (λ o h. omega (arith, h)) (lines_met ls nothing_yet 0 (le_refl 0)))

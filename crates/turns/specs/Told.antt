@@ -1,20 +1,21 @@
 -- What the answers of private functions and the rows tell of a run.
-use Rattle.std.specs.Prelude.{◌≡◌, Bool, cond, ◌&&◌, List, [], ℕ, ◌+◌, ◌*◌, ◌^◌, ◌≤◌, ◌<◌, max, leb, length, Float}
+use Rattle.std.specs.Prelude.{◌≡◌, Bool, cond, ◌&&◌, List, [], ◌∷◌, ℕ, ◌*◌, ◌≤◌, max, leb, length, get_or, Float, Result, Ok, Err, IfOk}
 use Rattle.terms.specs.Term.{Term, Distinct}
 use Rattle.numbers.specs.Tests.{is_finite}
 use Rattle.terms.specs.Met.{met_terms}
 use Rattle.rows.specs.declared.Step.{Step}
 use Rattle.rows.specs.Rows.{terms_in, rows_in, Holds}
 use Rattle.sums.specs.Steps.{finite_rows}
-use Rattle.turns.specs.declared.turn.Left.{Left}
 use Rattle.ops.specs.declared.Limits.{Limits}
+use Rattle.ops.specs.declared.Op.{Op}
+use Rattle.ops.specs.declared.Refusal.{Refusal}
+use Rattle.ops.specs.declared.Refusal.TheVariants.{Layout, Counts, RunLines, Reals, Qubits, Repeats, Room, NotFinite, TooMany, Angles}
+use Rattle.ops.specs.Refusals.{number_of}
 use Rattle.turns.specs.declared.Tally.{Tally}
-use Rattle.turns.specs.declared.Turned.{Turned}
-use Rattle.turns.specs.declared.Turned.TheVariants.{Going, Refused}
-use Rattle.turns.specs.declared.Ending.{Ending}
-use Rattle.turns.specs.declared.Ending.TheVariants.{Done, Failed}
+use Rattle.turns.specs.declared.Progress.{Progress}
+use Rattle.turns.specs.declared.Finished.{Finished}
 use Rattle.ops.specs.Ops.{on_words}
-use Rattle.turns.specs.SumRuns.{left_by}
+use Rattle.turns.specs.SumRuns.{left_by, told_by, results_of}
 use Rattle.dynamics.specs.Turn.{Stage, refused, going, State, state, checked, Outcome}
 
 -- ---- the answers that stand for a stage
@@ -22,35 +23,31 @@ use Rattle.dynamics.specs.Turn.{Stage, refused, going, State, state, checked, Ou
 abbrev pub tally : ℕ → Float → ℕ → Tally
 tally p d n = record { peak = p; discarded = d; touched = n }
 
-abbrev pub turned_of : Stage State → Turned
-turned_of (refused n) = Refused n
-turned_of (going s) = Going (length s.terms) (tally s.peak s.discarded s.touched)
+abbrev pub progress_of : State → Progress
+progress_of s = record { count = length s.terms; tally = tally s.peak s.discarded s.touched }
 
-abbrev pub ending_of : Stage Outcome → Ending
-ending_of (refused n) = Failed n
-ending_of (going o) = Done o.mean (length o.terms) (tally o.peak o.discarded o.touched)
+-- the refusal of a number
+abbrev pub refusal_of : ℕ → Refusal
+refusal_of n =
+    get_or (Layout ∷ Layout ∷ Counts ∷ RunLines ∷ Reals ∷ Qubits ∷ Repeats ∷ Room ∷ NotFinite ∷ TooMany ∷ Layout ∷ Angles ∷ []) n Layout
+
+abbrev pub ending_of : Stage Outcome → Result Finished Refusal
+ending_of (refused n) = Err (refusal_of n)
+ending_of (going o) = Ok (record { mean = o.mean; count = length o.terms; tally = tally o.peak o.discarded o.touched })
 
 -- the terms that a stage has; a refused run has none
 abbrev pub stage_terms : Stage State → List Term
 stage_terms (refused n) = []
 stage_terms (going s) = s.terms
 
-abbrev pub end_count : Ending → ℕ
-end_count (Failed n) = 0
-end_count (Done m n t) = n
-
 -- ---- the rows
 
-abbrev pub state_in : ℕ → ℕ → Tally → List ℕ → List Float → State
-state_in w n t ws cs = state (terms_in (2 * w) n ws cs) t.peak t.discarded t.touched
+abbrev pub state_in : ℕ → Progress → List ℕ → List Float → State
+state_in w p ws cs = state (terms_in (2 * w) p.count ws cs) p.tally.peak p.tally.discarded p.tally.touched
 
-abbrev pub count_of : Turned → ℕ
-count_of (Refused n) = 0
-count_of (Going n t) = n
-
-abbrev pub stage_in : ℕ → Turned → List ℕ → List Float → Stage State
-stage_in w (Refused n) ws cs = refused n
-stage_in w (Going n t) ws cs = going (state_in w n t ws cs)
+abbrev pub stage_in : ℕ → Result Progress Refusal → List ℕ → List Float → Stage State
+stage_in w (Err e) ws cs = refused (number_of e)
+stage_in w (Ok p) ws cs = going (state_in w p ws cs)
 
 -- n terms of distinct words, at most limit, in rows for twice limit
 pub record Ready (w : ℕ) (l : Limits) (n : ℕ) (ws : List ℕ) (cs : List Float) : Type 0 where
@@ -58,45 +55,41 @@ pub record Ready (w : ℕ) (l : Limits) (n : ℕ) (ws : List ℕ) (cs : List Flo
   pub room : 2 * l.limit ≤ rows_in w ws cs
   pub sound : Distinct (terms_in (2 * w) n ws cs)
 
--- what one op more can meet fits 64 bits
-abbrev pub Slack : Limits → Turned → Type 0
-Slack l (Refused n) = Unit {0}
-Slack l (Going n t) = t.touched + l.limit < 2 ^ 64
-
--- no op has met a term yet
-abbrev pub NothingMet : Turned → Type 0
-NothingMet (Refused n) = Unit {0}
-NothingMet (Going n t) = t.touched ≡ 0
+-- the start of a run: no op has met a term yet, and what at most 4,096 ops meet of at most 1,048,576 terms is counted in 64 bits
+pub record Fresh (w : ℕ) (l : Limits) (p : Progress) (ops : List Op) (ws : List ℕ) (cs : List Float) : Type 0 where
+  pub ready : Ready w l p.count ws cs
+  pub none : p.tally.touched ≡ 0
+  pub low : l.limit ≤ 1048576
+  pub short : length ops ≤ 4096
 
 -- the answer r and the rows tell of a stage; past the first 2 * limit rows all is as it was
-pub record Tells (w : ℕ) (l : Limits) (r : Turned) (ws₀ ws : List ℕ) (cs₀ cs : List Float) (s : Stage State) : Type 0 where
-  pub answer : r ≡ turned_of s
-  pub rows : Holds (2 * w) (2 * l.limit) (count_of r) (stage_terms s) ws₀ ws cs₀ cs
-  pub few : length (stage_terms s) ≤ l.limit
-  pub sound : Distinct (stage_terms s)
+pub record Tells (w : ℕ) (l : Limits) (r : Result Progress Refusal) (ws₀ ws : List ℕ) (cs₀ cs : List Float) (s : Stage State) : Type 0 where
+  pub told : stage_in w r ws cs ≡ s
+  pub rows : Holds (2 * w) (2 * l.limit) 0 [] ws₀ ws cs₀ cs
+  pub ready : IfOk r (λ p. Ready w l p.count ws cs)
 
--- the same of the end of a run
-pub record Ends (w : ℕ) (l : Limits) (r : Ending) (ws₀ ws : List ℕ) (cs₀ cs : List Float) (s : Stage Outcome) : Type 0 where
-  pub answer : r ≡ ending_of s
+-- the same of the end of a run, and the rows hold its terms
+pub record Ends (w : ℕ) (l : Limits) (r : Result Finished Refusal) (ws₀ ws : List ℕ) (cs₀ cs : List Float) (s : Stage Outcome) : Type 0 where
+  pub answer : told_by r ≡ results_of s
   pub rows : Holds (2 * w) (2 * l.limit) (length (left_by s)) (left_by s) ws₀ ws cs₀ cs
   pub few : length (left_by s) ≤ l.limit
 
 -- the rows after a drop, and its answer, hold the state s; past the first R rows all is as it was
-pub record AfterDrop (w R : ℕ) (r : Left) (ws₀ ws : List ℕ) (cs₀ cs : List Float) (s : State) : Type 0 where
-  pub answer : r ≡ record { count = length s.terms; tally = tally s.peak s.discarded s.touched }
+pub record AfterDrop (w R : ℕ) (r : Progress) (ws₀ ws : List ℕ) (cs₀ cs : List Float) (s : State) : Type 0 where
+  pub answer : r ≡ progress_of s
   pub rows : Holds (2 * w) R r.count s.terms ws₀ ws cs₀ cs
 
--- question 8, of the first n coefficients and a discarded weight
-abbrev pub fine_in : ℕ → Tally → List Float → Bool
-fine_in n t cs = finite_rows n cs && is_finite t.discarded
+-- question 8, of the first coefficients and the discarded weight
+abbrev pub fine_in : Progress → List Float → Bool
+fine_in p cs = finite_rows p.count cs && is_finite p.tally.discarded
 
 -- question 9, and the peak
-abbrev pub within_of : Limits → ℕ → Tally → Turned
-within_of l n t = cond (leb n l.limit) (Going n (tally (max t.peak n) t.discarded t.touched)) (Refused 9)
+abbrev pub within_of : Limits → Progress → Result Progress Refusal
+within_of l p = cond (leb p.count l.limit) (Ok (record { count = p.count; tally = tally (max p.tally.peak p.count) p.tally.discarded p.tally.touched })) (Err TooMany)
 
 -- questions 8 and 9 read no words
-abbrev pub CheckedIn : Limits → ℕ → Tally → List Float → Turned → Type 0
-CheckedIn l n t cs r = (w : ℕ) (ws : List ℕ) → r ≡ turned_of (checked l (state_in w n t ws cs))
+abbrev pub CheckedIn : Limits → Progress → List Float → Result Progress Refusal → Type 0
+CheckedIn l p cs r = (w : ℕ) (ws : List ℕ) → stage_in w r ws cs ≡ checked l (state_in w p ws cs)
 
 -- the terms in at most 2 * n rows, where the words have the targets qs: what an op makes of them, and how many it met; else all as it was
 abbrev pub Applied : ℕ → ℕ → List ℕ → List Term → Step → List ℕ → List ℕ → List Float → List Float → Type 0

@@ -1,175 +1,110 @@
 // The fold: each line of a sum alone at weight 1, and the totals.
-ghost use Rattle.std.specs.Prelude.{◌≡◌, ◌+◌, ◌*◌, ◌^◌, ◌≤◌, ◌<◌, get_or};
-ghost use Rattle.std.specs.Float.{nan};
+ghost use Rattle.std.specs.Prelude.{◌≡◌, ◌+◌, ◌^◌, ◌<◌};
 ghost use Rattle.words.specs.Keys.{width_of};
-ghost use Rattle.terms.specs.Lists.{tab};
-ghost use Rattle.dynamics.specs.Turn.{bind};
-ghost use Rattle.ops.specs.OpList.{op_list};
-ghost use Rattle.turns.specs.Told.{ending_of, Ends};
-ghost use Rattle.dynamics.specs.Outcome.{nothing_yet, add_next, fold_lines, folded, ask_totals};
-ghost use Rattle.turns.specs.Means.{end_touched};
-ghost use Rattle.ops.specs.LineTable.{table_line, task_in};
-ghost use Rattle.turns.specs.Folding.{held_in, held_touched, added, FoldReady, Totals};
+ghost use Rattle.dynamics.specs.Turn.{going};
+ghost use Rattle.dynamics.specs.Outcome.{nothing_yet, fold_lines, ask_totals, folded};
+ghost use Rattle.ops.specs.LineTable.{task_of};
+ghost use Rattle.turns.specs.SumRuns.{told_by, results_of};
+ghost use Rattle.turns.specs.Told.{Ends};
+ghost use Rattle.turns.specs.Folding.{held, added, SumReady, Folds};
 
-use crate::peaks::larger;
-use crate::run::run_held;
-use crate::{Ending, Start, Tally};
-use ops::Limits;
+use crate::run::run_from;
+use crate::{Finished, Tally, starts};
+use ops::{Circuit, Limits, Observable, Refusal};
+use words::rows::width;
 
-// The totals so far, or the refusal of one line.
+// The totals of the lines so far.
 #[derive(Clone, Copy)]
-pub(crate) enum Folded {
-    Ended(u8),
-    Held(f64, Tally),
+struct Totals {
+    mean: f64,
+    tally: Tally,
 }
 
-// The totals with one line's end: its mean times the weight, its discarded weight times the weight's size, the greater peak, and the terms
-// that its ops met.
-fn add_line(mean: f64, tally: Tally, weight: f64, end: Ending) -> Folded
-    requires { tally.touched + end_touched end < 2 ^ 64 }
-    ensures { result ≡ added mean tally weight end }
-{
-    match end {
-        Ending::Failed(q) => Folded::Ended(q),
-        Ending::Done(x, _, t) => Folded::Held(
-            mean + weight * x,
-            Tally {
-                peak: larger(tally.peak, t.peak),
-                discarded: tally.discarded + numbers::tests::absolute(weight) * t.discarded,
-                touched: tally.touched + t.touched,
+impl Totals {
+    fn none() -> Totals
+        ensures { held result ≡ nothing_yet }
+    {
+        Totals {
+            mean: 0.0,
+            tally: Tally {
+                peak: 0,
+                discarded: 0.0,
+                touched: 0,
             },
-        ),
+        }
     }
-}
 
-fn weight_at(weights: &[f64], i: usize) -> f64
-    ensures { result ≡ get_or weights.now i nan }
-{
-    if i < weights.len() {
-        return weights[i];
+    // The totals with one line's end: its mean times the weight, its discarded weight times the weight's size, the greater peak, and the
+    // terms that its ops met.
+    fn with_line(self, weight: f64, end: Finished) -> Totals
+        requires { self.tally.touched + end.tally.touched < 2 ^ 64 }
+        ensures { result ≡ added self weight end }
+    {
+        let size = numbers::tests::absolute(weight);
+        Totals {
+            mean: self.mean + weight * end.mean,
+            tally: Tally {
+                peak: self.tally.peak.max(end.tally.peak),
+                discarded: self.tally.discarded + size * end.tally.discarded,
+                touched: self.tally.touched + end.tally.touched,
+            },
+        }
     }
-    0.0 / 0.0
-}
 
-// Line i alone, unless one before it was refused.
-fn fold_line(
-    at: Folded,
-    i: usize,
-    qubits: usize,
-    w: usize,
-    keys: &[u64],
-    weights: &[f64],
-    codes: &[usize],
-    reals: &[f64],
-    n: usize,
-    marks: &[bool],
-    limits: Limits,
-    words: &mut [u64],
-    coeffs: &mut [f64],
-    index: &mut [u32],
-) -> Folded
-    requires { (w ≡ width_of qubits) × FoldReady w limits keys.now weights.now (i + 1) words.old coeffs.old × (held_touched at ≤ i * 4294967296) }
-    ensures { Totals w limits (bind (held_in at) (add_next (task_in qubits limits keys.now weights.now (i + 1) (op_list n codes.now reals.now)) marks.now (table_line w keys.now weights.now i)))
-        result words.old words.new coeffs.old coeffs.new }
-{
-    let Folded::Held(mean, tally) = at else {
-        return at;
-    };
-    let end = run_held(
-        Start::Alone(i),
-        keys,
-        weights,
-        codes,
-        reals,
-        n,
-        marks,
-        limits,
-        words,
-        coeffs,
-        index,
-        w,
-    );
-    add_line(mean, tally, weight_at(weights, i), end)
+    // Question 8 of the totals.
+    fn finished(self) -> Result<Finished, Refusal>
+        ensures { told_by result ≡ results_of (ask_totals (held self)) }
+    {
+        if !numbers::tests::is_finite(self.mean)
+            || !numbers::tests::is_finite(self.tally.discarded)
+        {
+            return Err(Refusal::NotFinite);
+        }
+        Ok(Finished {
+            mean: self.mean,
+            count: 0,
+            tally: self.tally,
+        })
+    }
 }
 
 // All lines, in order.
 fn fold_lines(
-    qubits: usize,
-    w: usize,
-    keys: &[u64],
-    weights: &[f64],
-    lines: usize,
-    codes: &[usize],
-    reals: &[f64],
-    n: usize,
+    circuit: Circuit<'_>,
+    observable: Observable<'_>,
     marks: &[bool],
     limits: Limits,
     words: &mut [u64],
     coeffs: &mut [f64],
     index: &mut [u32],
-) -> Folded
-    requires { (w ≡ width_of qubits) × FoldReady w limits keys.now weights.now lines words.old coeffs.old }
-    ensures { Totals w limits (fold_lines (task_in qubits limits keys.now weights.now lines (op_list n codes.now reals.now)) marks.now (tab lines (table_line w keys.now weights.now)) nothing_yet)
-        result words.old words.new coeffs.old coeffs.new }
+) -> Result<Totals, Refusal>
+    requires { SumReady circuit.qubits limits observable.keys.now observable.weights.now circuit.ops.now words.old coeffs.old }
+    ensures { let t = task_of circuit.entry.qubits limits observable.entry.keys.now observable.entry.weights.now circuit.entry.ops.now in
+        Folds (width_of circuit.entry.qubits) limits result words.old words.new coeffs.old coeffs.new (fold_lines t marks.now t.lines nothing_yet) }
 {
-    let mut at = Folded::Held(
-        0.0,
-        Tally {
-            peak: 0,
-            discarded: 0.0,
-            touched: 0,
-        },
-    );
-    let mut i = 0;
-    while i < lines {
-        at = fold_line(
-            at, i, qubits, w, keys, weights, codes, reals, n, marks, limits, words, coeffs, index,
-        );
-        i += 1;
+    let w = width(circuit.qubits);
+    let mut totals = Totals::none();
+    for (i, weight) in observable.weights.iter().enumerate() {
+        let start = starts::start_alone(observable.keys, i, limits, words, coeffs, w);
+        let end = run_from(start, circuit.ops, marks, limits, words, coeffs, index, w)?;
+        totals = totals.with_line(*weight, end);
     }
-    at
-}
-
-// Question 8 of the totals.
-fn ended(at: Folded) -> Ending
-    ensures { result ≡ ending_of (bind (held_in at) ask_totals) }
-{
-    match at {
-        Folded::Ended(q) => Ending::Failed(q),
-        Folded::Held(mean, tally) => {
-            if numbers::tests::is_finite(mean) {
-                if numbers::tests::is_finite(tally.discarded) {
-                    return Ending::Done(mean, 0, tally);
-                }
-                return Ending::Failed(8);
-            }
-            Ending::Failed(8)
-        }
-    }
+    Ok(totals)
 }
 
 // The fold of all lines. The rows hold anything after it, and so does the index.
 pub(crate) fn fold(
-    qubits: usize,
-    w: usize,
-    keys: &[u64],
-    weights: &[f64],
-    lines: usize,
-    codes: &[usize],
-    reals: &[f64],
-    n: usize,
+    circuit: Circuit<'_>,
+    observable: Observable<'_>,
     marks: &[bool],
     limits: Limits,
     words: &mut [u64],
     coeffs: &mut [f64],
     index: &mut [u32],
-) -> Ending
-    requires { (w ≡ width_of qubits) × FoldReady w limits keys.now weights.now lines words.old coeffs.old }
-    ensures { Ends w limits result words.old words.new coeffs.old coeffs.new
-        (folded (task_in qubits limits keys.now weights.now lines (op_list n codes.now reals.now)) marks.now) }
+) -> Result<Finished, Refusal>
+    requires { SumReady circuit.qubits limits observable.keys.now observable.weights.now circuit.ops.now words.old coeffs.old }
+    ensures { Ends (width_of circuit.entry.qubits) limits result words.old words.new coeffs.old coeffs.new
+        (folded (task_of circuit.entry.qubits limits observable.entry.keys.now observable.entry.weights.now circuit.entry.ops.now) marks.now) }
 {
-    let at = fold_lines(
-        qubits, w, keys, weights, lines, codes, reals, n, marks, limits, words, coeffs, index,
-    );
-    ended(at)
+    fold_lines(circuit, observable, marks, limits, words, coeffs, index)?.finished()
 }

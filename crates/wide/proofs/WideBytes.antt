@@ -8,6 +8,7 @@ use lib.Dec.{leb, ltb}
 use lib.ListN.{length, take, drop, get_or, set, length-append}
 use lib.Ieee.{eq, of_bits}
 use lib.Seq.{get_or-set_other, drop-set-lt}
+use Rattle.std.specs.Prelude.{Option}
 use Rattle.numbers.proofs.CloseLaws.{shown_≈, printed_bits_≈}
 use Rattle.text.specs.Bytes.{bytes, parts, newline, begins}
 use Rattle.ops.specs.declared.Op.{Op}
@@ -25,8 +26,7 @@ use Rattle.lines.specs.OpLines.{op_on}
 use Rattle.layout.specs.declared.Head.{Head}
 use Rattle.layout.specs.Layout.{kind, head_kind, is_laid_out, bad_line, head_of, question1, term_lines, sheet_ops}
 use Rattle.replies.specs.Printed.{printed}
-use Rattle.questions.specs.Verdict.{Verdict}
-use Rattle.questions.specs.Verdict.{RefusedAt, Passed}
+use Rattle.questions.specs.Verdict.{Verdict, RefusedAt, Passed}
 use Rattle.questions.specs.Questions.{question2, question3, question4, question11, question7, first_no, refused_or, term_fault, op_fault, first_fault, verdict}
 use Rattle.sheet.specs.Answer.{task_of, refusal, reply_run, reply_to, reply_of, means_run, means_to, printed_of}
 use Rattle.sheet.specs.SheetCone.{rejoined, task_of_bytes, SameReply}
@@ -51,7 +51,7 @@ task_as : (v : Way) (s : List ℕ) → task_of_bytes (bytes_as v s) ≡ task_of_
 task_as v s = ap (λ (ls : List (List ℕ)). task_of (head_of ls) ls) (lines_as v s) ∙ same_task_lem (parts newline s) (run_line v)
 
 -- ---- the questions before the run, by what they read: the first line that is not laid out, the `term` lines, the ops, and whether there is room
-judged : Head → ℕ → List TermLine → List Op → Bool → Verdict
+judged : Head → Option ℕ → List TermLine → List Op → Bool → Verdict
 judged h bad ts os room =
     refused_or 1 bad
     (refused_or 2 (first_no (question2 h) h.terms ts os)
@@ -69,7 +69,7 @@ ran : Run → Head → Head
 ran r h = record { qubits = h.qubits; run = r; epsilon = h.epsilon; max_terms = h.max_terms; limit = h.limit; terms = h.terms; ops = h.ops }
 
 -- "counts as `path` in every rule so far"
-judged_alike : (h : Head) (bad : ℕ) (ts : List TermLine) (os : List Op) (room : Bool) → judged (ran Path h) bad ts os room ≡ judged (ran Wide h) bad ts os room
+judged_alike : (h : Head) (bad : Option ℕ) (ts : List TermLine) (os : List Op) (room : Bool) → judged (ran Path h) bad ts os room ≡ judged (ran Wide h) bad ts os room
 unfolding judged ran
 judged_alike h bad ts os room = refl
 
@@ -125,7 +125,7 @@ module _ (p q : List ℕ) (ps : List (List ℕ)) where
       let h = head_of whole in
       verdict_as as_path (rows as_path) (places as_path)
       ∙ judged_alike h _ (term_lines h whole) (sheet_ops h whole) (leb (2 * h.limit) (rows as_path) && true)
-      ∙ ap₂ (λ (bad : ℕ) (room : Bool). judged (ran Wide h) bad (term_lines h whole) (sheet_ops h whole) (room && true)) (laid_alike h.terms h.ops) e
+      ∙ ap₂ (λ (bad : Option ℕ) (room : Bool). judged (ran Wide h) bad (term_lines h whole) (sheet_ops h whole) (room && true)) (laid_alike h.terms h.ops) e
       ∙ sym (verdict_as as_wide (rows as_wide) (places as_wide))
 
 -- ---- the refusal before the run, of lines

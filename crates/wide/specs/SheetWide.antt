@@ -5,8 +5,7 @@ use Rattle.text.specs.Bytes.{bytes, parts, newline}
 use Rattle.cones.specs.Wide.{Way, as_path, as_wide, Provided, AgreesWithPath}
 use Rattle.layout.specs.Layout.{head_of}
 use Rattle.replies.specs.declared.Reply.{Reply}
-use Rattle.questions.specs.Verdict.{Verdict}
-use Rattle.questions.specs.Verdict.{RefusedAt, Passed}
+use Rattle.questions.specs.Verdict.{Verdict, RefusedAt, Passed}
 use Rattle.questions.specs.Questions.{verdict}
 use Rattle.sheet.specs.Answer.{refusal, reply_of, printed_of}
 use Rattle.sheet.specs.SheetCone.{rejoined, task_of_bytes, SameReply}
