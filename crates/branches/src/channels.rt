@@ -3,7 +3,7 @@ ghost use Rattle.std.specs.Prelude.{◌≡◌, true, Option, map, ◌+◌, ◌*�
 ghost use Rattle.words.specs.Keys.{flip_at, z_at, has_letter};
 ghost use Rattle.terms.specs.Channel.{is_zletter, insert, branch, branches_to, with_branches, scaled_letter, scaled_local, scaled_either, channeled};
 ghost use Rattle.terms.specs.Term.{term};
-ghost use Rattle.terms.specs.Met.{acts_on_two, kind_targets};
+ghost use Rattle.terms.specs.Met.{kind_targets};
 ghost use Rattle.branches.specs.Letters.{letter_of};
 ghost use Rattle.branches.specs.declared.Sought.TheVariants.{Identity};
 ghost use Rattle.branches.specs.Chains.{Indexed, Spare};
@@ -226,13 +226,6 @@ fn channel_held(
     }
 }
 
-// Whether a channel has two targets.
-fn on_two(kind: ChannelKind) -> bool
-    ensures { result ≡ acts_on_two kind }
-{
-    matches!(kind, ChannelKind::Depolarizing2q)
-}
-
 // Takes each of the first n terms backward through a channel, at a and, for a channel on two targets, b. The answer is the number of
 // terms, where there are 2 * n rows, else nothing changes; and how many of the first n had a letter on at least one target. Where none had,
 // nothing changes and no row is touched. What the memory of the index then holds is free, but for its length.
@@ -250,7 +243,7 @@ pub fn apply_backward_channel(
         × Grown w n (channeled w a b action (terms_in (2 * w) n words.old coeffs.old)) result.count
         words.old words.new coeffs.old coeffs.new) × (length index.new ≡ length index.old) }
 {
-    let second = on_two(action.kind).then_some(b);
+    let second = action.kind.acts_on_two().then_some(b);
     let met = met_rows(words, coeffs, w, n, a, second);
     if met == 0 && has_targets(w, a, second) {
         return Step { count: n, met };

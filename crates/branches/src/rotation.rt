@@ -2,8 +2,8 @@
 ghost use Rattle.std.specs.Prelude.{◌≡◌, Option, not, map, ◌+◌, ◌*◌, ◌≤◌, ◌<◌, length};
 ghost use Rattle.words.specs.Letters.{is_odd};
 ghost use Rattle.terms.specs.Rotation.{mixed};
-ghost use Rattle.terms.specs.Met.{axis_targets};
-ghost use Rattle.rows.specs.Rows.{coeff_at, targets, term_at, terms_in, met_in, put_coeff, Room, Holds};
+ghost use Rattle.terms.specs.Met.{targets, axis_targets};
+ghost use Rattle.rows.specs.Rows.{coeff_at, term_at, terms_in, met_in, put_coeff, Room, Holds};
 ghost use Rattle.branches.specs.Pairs.{Tabled};
 ghost use Rattle.branches.specs.Rotated.{Rotated, scaled_by, lone_by, row_by, rows_by};
 

@@ -15,12 +15,12 @@ use Rattle.terms.specs.Lists.{All, tab, foldl}
 use Rattle.terms.specs.Term.{Term}
 use Rattle.std.specs.Prelude.{Option}
 use Rattle.std.specs.Bool.{then_some}
-use Rattle.terms.specs.Met.{one_or_two, in_words, letter_among, add_met, met_terms}
+use Rattle.terms.specs.Met.{one_or_two, targets, in_words, letter_among, add_met, met_terms}
 use Rattle.terms.proofs.ListLaws.{fold_tab}
 use Rattle.terms.proofs.MetLaws.{one_letter, two_letters, none_met_bare}
 use Rattle.terms.proofs.LetterSteps.{Bare}
 use Rattle.words.specs.Rows.{key_at}
-use Rattle.rows.specs.Rows.{targets, term_at, terms_in, rows_in, met_in, Holds, Stepped, Grown}
+use Rattle.rows.specs.Rows.{term_at, terms_in, rows_in, met_in, Holds, Stepped, Grown}
 use Rattle.rows.proofs.RowLaws.{word_at}
 use Rattle.rows.proofs.HoldLaws.{hold_start}
 use Rattle.rows.proofs.StepLaws.{rows_room, stepped_held, unstepped, grown}

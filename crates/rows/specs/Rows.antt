@@ -58,11 +58,6 @@ Grown w n ts r ws ws' cs cs' = Stepped w (2 * n) (length ts) n ts r ws ws' cs cs
 abbrev pub met_in : ℕ → List ℕ → ℕ → List ℕ → List Float → ℕ
 met_in w qs n ws cs = cond (leb n (rows_in w ws cs) && in_words w qs) (met_terms w qs (terms_in (2 * w) n ws cs)) 0
 
--- the targets of a step: one, and a second where there is one
-abbrev pub targets : ℕ → Option ℕ → List ℕ
-targets a None = a ∷ []
-targets a (Some b) = a ∷ b ∷ []
-
 -- ---- words of the private contracts
 
 -- the buffers with another coefficient, or another key, in row i

@@ -1,9 +1,9 @@
 // How many rows have a letter on at least one of the targets of a step.
 ghost use Rattle.std.specs.Prelude.{◌≡◌, ℕ, cond, Option, ◌+◌, ◌*◌, ◌/◌, ◌≤◌, ◌<◌, length};
 ghost use Rattle.words.specs.Keys.{has_letter};
-ghost use Rattle.terms.specs.Met.{in_words};
+ghost use Rattle.terms.specs.Met.{targets, in_words};
 ghost use Rattle.words.specs.Rows.{key_at};
-ghost use Rattle.rows.specs.Rows.{targets, rows_in, met_in};
+ghost use Rattle.rows.specs.Rows.{rows_in, met_in};
 
 use crate::row;
 use words::gates::word_bit;

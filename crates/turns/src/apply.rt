@@ -2,7 +2,7 @@
 ghost use Rattle.std.specs.Prelude.{◌≡◌, map, ◌*◌, ◌≤◌};
 ghost use Rattle.numbers.specs.Constants.{sine_t, cosine_t};
 ghost use Rattle.ops.specs.Ops.{on_words};
-ghost use Rattle.terms.specs.Met.{gate_targets, axis_targets, acts_on_two, kind_targets};
+ghost use Rattle.terms.specs.Met.{gate_targets, axis_targets, kind_targets};
 ghost use Rattle.terms.specs.Term.{Distinct, conjugated};
 ghost use Rattle.terms.specs.Channel.{action_of};
 ghost use Rattle.rows.specs.Rows.{terms_in, rows_in, Holds};
@@ -12,7 +12,7 @@ ghost use Rattle.turns.specs.Told.{Applied};
 use branches::rotation::{Rotation, branch_rotation};
 use ops::{Op, targets};
 use rows::Step;
-use terms::{Axis, ChannelKind, NoiseChannel as Noise};
+use terms::{Axis, NoiseChannel as Noise};
 use words::Gate;
 use words::gates::has_two_targets;
 
@@ -30,7 +30,8 @@ fn apply_gate(
     ensures { Applied w n (gate_targets gate a b) (map (conjugated w gate a b) (terms_in (2 * w) n words.old coeffs.old)) result
         words.old words.new coeffs.old coeffs.new }
 {
-    if targets::has_targets(has_two_targets(gate), w, a, b) {
+    let second = has_two_targets(gate).then_some(b);
+    if targets::has_targets(w, a, second) {
         let met = sums::gates::conjugate_all_backward_phased(words, coeffs, w, n, gate, a, b);
         return Step { count: n, met };
     }
@@ -66,12 +67,6 @@ fn apply_rotation(
     Step { count: n, met: 0 }
 }
 
-fn acts_on_two(kind: ChannelKind) -> bool
-    ensures { result ≡ acts_on_two kind }
-{
-    matches!(kind, ChannelKind::Depolarizing2q)
-}
-
 // A channel, at one target or two.
 fn apply_channel(
     words: &mut [u64],
@@ -88,7 +83,8 @@ fn apply_channel(
         words.old words.new coeffs.old coeffs.new }
 {
     let action = terms::channels::channel_action(channel);
-    if targets::has_targets(acts_on_two(action.kind), w, a, b) {
+    let second = action.kind.acts_on_two().then_some(b);
+    if targets::has_targets(w, a, second) {
         return branches::channels::apply_backward_channel(words, coeffs, index, w, n, action, a, b);
     }
     Step { count: n, met: 0 }

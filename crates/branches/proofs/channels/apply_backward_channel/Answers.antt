@@ -1,8 +1,8 @@
 -- Where no term has a letter at a target, the channel changes none.
 use Rattle.std.proofs.Common.{◌≡◌, ℕ, List, true, refl, sym, ap, ◌∙◌, rules}
-use Rattle.terms.specs.Met.{acts_on_two, kind_targets, in_words}
+use Rattle.terms.specs.Met.{targets, acts_on_two, kind_targets, in_words}
 use Rattle.terms.proofs.LetterSteps.{bare_channeled}
-use Rattle.rows.specs.Rows.{targets, met_in}
+use Rattle.rows.specs.Rows.{met_in}
 use Rattle.rows.proofs.LetterRows.{targets_of, untouched_bare, same_grown, once}
 use Rattle.branches.proofs.channels.apply_backward_channel.Goals as goal
 

@@ -1,9 +1,9 @@
 -- The rows are through the gate; where none has a letter at a target, the gate changes none.
 use Rattle.std.proofs.Common.{◌≡◌, ℕ, true, List, ap, sym, ◌∙◌, rules}
 use Rattle.words.specs.Gates.{has_two_targets}
-use Rattle.terms.specs.Met.{gate_targets, in_words}
+use Rattle.terms.specs.Met.{targets, gate_targets, in_words}
 use Rattle.terms.proofs.LetterSteps.{bare_conjugated}
-use Rattle.rows.specs.Rows.{targets, met_in}
+use Rattle.rows.specs.Rows.{met_in}
 use Rattle.rows.proofs.LetterRows.{targets_of, untouched_bare, same_stepped}
 use Rattle.sums.proofs.GateRows.{stepped_through, through_arm}
 use Rattle.sums.proofs.gates.conjugate_all_backward_phased.Goals as goal
