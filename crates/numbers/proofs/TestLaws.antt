@@ -9,7 +9,7 @@ use lib.Dec.{T}
 use lib.Ieee.{Float, nan, inf, fin, binary64, up, down, lt, eq, le, neg, fits, is_nan, of_bits}
 use lib.Ieee.Exact.{HasValue}
 use borrow.Author.Tests.{ltb-true}
-use Rattle.std.specs.Float.{float_is_finite, float_with_sign}
+use Rattle.std.specs.Float.{float_with_sign}
 use Rattle.std.specs.Ordering.{is_le, is_some_and, partial_le, float_partial_cmp}
 use Rattle.std.proofs.Common.{Some, None, ◌||◌, cond, Less, Equal, Greater}
 use Rattle.numbers.specs.Constants.{zero64}
