@@ -5,11 +5,11 @@ ghost use Rattle.words.specs.Gates.{flip_when};
 
 use crate::gates::word_bit;
 
-// Which of n words has bit i, counted from the word `base`; None past the end. Two comparisons, and not
-// `checked_add`, which as a test in the loops over rows is 2 % slower.
+// Which of n words has bit i, counted from the word `base`; None past the end.
 fn word_with(n: usize, base: usize, i: usize) -> Option<usize>
     ensures { MatchOption result (n ≤ base + i / 64) (λ at. (at ≡ base + i / 64) × (at < n)) }
 {
+    // By `checked_add` and `filter` the loops over rows take 2 % longer.
     let at = i / 64;
     if base < n && at < n - base {
         Some(base + at)
