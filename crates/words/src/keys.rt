@@ -9,13 +9,7 @@ use crate::gates::word_bit;
 fn word_with(n: usize, base: usize, i: usize) -> Option<usize>
     ensures { MatchOption result (n ≤ base + i / 64) (λ at. (at ≡ base + i / 64) × (at < n)) }
 {
-    // By `checked_add` and `filter` the loops over rows take 2 % longer.
-    let at = i / 64;
-    if base < n && at < n - base {
-        Some(base + at)
-    } else {
-        None
-    }
+    base.checked_add(i / 64).filter(|at| *at < n)
 }
 
 // Bit i, counted from the word `base`, as a number: 0 past the end.

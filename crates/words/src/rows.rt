@@ -7,7 +7,7 @@ ghost use Rattle.words.specs.Keys.{width_of};
 pub fn rows_of(n: usize, w: usize) -> usize
     ensures { result ≡ n / (2 * w) }
 {
-    // It is asked for at each op: by `checked_div` a run of `all` takes 4 % longer.
+    // It is asked for at each op: by `checked_div` a run of many rows takes 2 % longer.
     if w == 0 || n / 2 < w { 0 } else { n / (2 * w) }
 }
 
