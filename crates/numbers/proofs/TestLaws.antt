@@ -9,7 +9,7 @@ use lib.Dec.{T}
 use lib.Ieee.{Float, nan, inf, fin, binary64, up, down, lt, eq, le, neg, fits, is_nan, of_bits}
 use lib.Ieee.Exact.{HasValue}
 use borrow.Author.Tests.{ltb-true}
-use Rattle.std.specs.Float.{float_is_finite, float_with_sign}
+use Rattle.std.specs.Float.{float_with_sign}
 use Rattle.std.specs.Ordering.{is_le, is_some_and, partial_le, float_partial_cmp}
 use Rattle.std.proofs.Common.{Some, None, ◌||◌, cond, Less, Equal, Greater}
 use Rattle.numbers.specs.Constants.{zero64}
@@ -49,11 +49,20 @@ finite_no_nan nan p = absurd (holds p)
 finite_no_nan (inf s) p = tt
 finite_no_nan (fin s m e) p = tt
 
-pub finite_same : (x : Float) → float_is_finite x ≡ is_finite x
-unfolding float_is_finite
-finite_same nan = refl
-finite_same (inf s) = refl
-finite_same (fin s m e) = refl
+-- against the two infinities, as the code has them by their bits
+pub above_minus : (x : Float) → lt (of_bits binary64 0xfff0_0000_0000_0000) x ≡ true → lt x (of_bits binary64 0x7ff0_0000_0000_0000) ≡ is_finite x
+unfolding lt of_bits
+above_minus nan p = absurd (holds p)
+above_minus (inf true) p = absurd (holds p)
+above_minus (inf false) p = refl
+above_minus (fin s m e) p = refl
+
+pub not_above_minus : (x : Float) → lt (of_bits binary64 0xfff0_0000_0000_0000) x ≡ false → lt (of_bits binary64 0xfff0_0000_0000_0000) x ≡ is_finite x
+unfolding lt of_bits
+not_above_minus nan p = refl
+not_above_minus (inf true) p = refl
+not_above_minus (inf false) p = absurd (fails p tt)
+not_above_minus (fin s m e) p = absurd (fails p tt)
 
 pub sign_cleared : (x : Float) → float_with_sign false x ≡ abs_of x
 unfolding float_with_sign

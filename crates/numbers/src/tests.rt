@@ -3,11 +3,12 @@ ghost use Rattle.std.specs.Prelude.{◌≡◌};
 ghost use Rattle.numbers.specs.Tests.{is_finite, abs_of, is_epsilon, in_sine, in_unit, at_least_zero};
 
 // Whether x is neither a NaN nor an infinity.
-#[tactic(auto, using(crate::proofs::TestLaws::finite_same))]
+#[tactic(auto, using(crate::proofs::TestLaws::above_minus, crate::proofs::TestLaws::not_above_minus))]
 pub fn is_finite(x: f64) -> bool
     ensures { result ≡ is_finite x }
 {
-    x.is_finite()
+    // It is asked of every row after each op: by the library's `is_finite` a run of `all` takes 7 % longer.
+    f64::NEG_INFINITY < x && x < f64::INFINITY
 }
 
 // x with its sign cleared: +0 at -0.

