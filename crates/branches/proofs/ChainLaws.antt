@@ -13,7 +13,7 @@ use borrow.Author.Tests.{eq-eqb, ne_eqb}
 use Rattle.std.specs.Prelude.{Option, Some, None}
 use Rattle.terms.specs.Branch.{first, or_at}
 use Rattle.terms.proofs.CaseLaws.{bool_cases, eq_or_ne}
-use Rattle.branches.specs.Chains.{last, Chained, pushed, found_of}
+use Rattle.branches.specs.Chains.{last, Chained, pushed}
 
 module _ (f : ℕ → ℕ) where
   last_here : (k b : ℕ) → f k ≡ b → last f (suc k) b ≡ suc k
@@ -117,7 +117,7 @@ or_nothing : (g : Option ℕ) → or_found g None ≡ g
 or_nothing (Some i) = refl
 or_nothing None = refl
 
-or_taken : (g : Option ℕ) (b : Bool) (i m : ℕ) → or_found (or_at g b i) (found_of m) ≡ or_found g (found_of (cond b (suc i) m))
+or_taken : (g : Option ℕ) (b : Bool) (i : ℕ) (m : Option ℕ) → or_found (or_at g b i) m ≡ or_found g (cond b (Some i) m)
 or_taken (Some j) b i m = refl
 or_taken None true i m = refl
 or_taken None false i m = refl
@@ -145,9 +145,9 @@ module _ (f : ℕ → ℕ) (p : ℕ → Bool) (b : ℕ) (alike : (j : ℕ) → p
   skip : (k : ℕ) → first p k ≡ first p (last f k b)
   skip k = first_skip p (last f k b) k (last_le f k b) (λ j l h. fails j (last_past f k b j l h))
 
-  pub search_starts : (n : ℕ) → first p n ≡ or_found (first p (last f n b)) (found_of 0)
+  pub search_starts : (n : ℕ) → first p n ≡ or_found (first p (last f n b)) None
   search_starts n = skip n ∙ sym (or_nothing (first p (last f n b)))
 
-  pub search_goes : (i m : ℕ) (g : Option ℕ) → g ≡ or_found (first p (suc i)) (found_of m) → g ≡ or_found (first p (last f i b)) (found_of (cond (p i) (suc i) m))
+  pub search_goes : (i : ℕ) (m g : Option ℕ) → g ≡ or_found (first p (suc i)) m → g ≡ or_found (first p (last f i b)) (cond (p i) (Some i) m)
   unfolding first
-  search_goes i m g e = e ∙ or_taken (first p i) (p i) i m ∙ ap (λ (x : Option ℕ). or_found x (found_of (cond (p i) (suc i) m))) (skip i)
+  search_goes i m g e = e ∙ or_taken (first p i) (p i) i m ∙ ap (λ (x : Option ℕ). or_found x (cond (p i) (Some i) m)) (skip i)

@@ -72,11 +72,6 @@ pub record Spare (n : ℕ) (buckets : Option ℕ) (long : ℕ) : Type 0 where
 
 -- ---- what is found
 
--- a number of the index as a row: 0 for none, else one more than the row
-abbrev pub found_of : ℕ → Option ℕ
-found_of zero = None
-found_of (suc i) = Some i
-
 -- r is the first row of bucket b that has the key looked for from row i
 pub record Walked (s : Sought) (w : ℕ) (ws : List ℕ) (n buckets : ℕ) (ix : List ℕ) (i b : ℕ) (r : Option ℕ) : Type 0 where
   pub found : (L : Linked n buckets ix)

@@ -1,4 +1,3 @@
---
 use native.Mathlib.Omega.{arith}
 use lib.ListN.{length-set}
 use Rattle.branches.proofs.chains.link.Goals as goal

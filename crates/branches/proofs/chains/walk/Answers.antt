@@ -1,5 +1,5 @@
 -- A turn goes to the next row of the chain.
-use Rattle.std.proofs.Common.{◌≡◌, ◌-◌, ◌*◌, ◌<◌, Bool, cond, sym, ap, ◌∙◌, rules, arith}
+use Rattle.std.proofs.Common.{◌≡◌, ◌-◌, ◌*◌, ◌<◌, Bool, Option, Some, cond, sym, ap, ◌∙◌, rules, arith}
 use Rattle.rows.proofs.RowLaws.{row_before}
 use Rattle.branches.proofs.WalkLaws.{walk_begins, walk_falls, walk_goes, walk_ends}
 use Rattle.branches.proofs.chains.walk.Goals as goal
@@ -43,10 +43,10 @@ loop-at-smaller c =
 pub loop-at-preserved : goal.loop-at-preserved
 loop-at-preserved c L =
     let l = c.loop-at in
-    let taken : c.if-is_sought.best ≡ cond c.is_sought.result l.at l.best =
+    let taken : c.if-is_sought.best ≡ cond c.is_sought.result (Some (l.at - 1)) l.best =
     elim c.if-is_sought.branch [
-      | then-is_sought w ↦ w.best-is ∙ ap (λ (t : Bool). cond t l.at l.best) (sym w.if-is_sought.true)
-      | else-is_sought w ↦ w.best-is ∙ ap (λ (t : Bool). cond t l.at l.best) (sym w.if-is_sought.false)
+      | then-is_sought w ↦ w.best-is ∙ ap (λ (t : Bool). cond t (Some (l.at - 1)) l.best) (sym w.if-is_sought.true)
+      | else-is_sought w ↦ w.best-is ∙ ap (λ (t : Bool). cond t (Some (l.at - 1)) l.best) (sym w.if-is_sought.false)
     ] in
     rw (taken, c.is_sought.ensures) (walk_goes _ _ _ _ _ c.requires.1.1.0 L l.at l.best c.loop-at-test.true (l.invariant L))
 
@@ -54,4 +54,4 @@ pub returns : goal.returns
 returns c =
     let l = c.loop-at in
     let z : l.at ≡ 0 = omega arith in
-    record { found = λ L. walk_ends _ _ _ _ _ _ (l.invariant L) z c.checked_sub.ensures }
+    record { found = λ L. walk_ends _ _ _ _ _ _ (l.invariant L) z }

@@ -1,4 +1,3 @@
---
 use Prim.Native.Nat.{◌*◌, ◌≤◌}
 use Rattle.terms.specs.Lists.{map_to}
 use Rattle.terms.specs.Channel.{scaled_letter}

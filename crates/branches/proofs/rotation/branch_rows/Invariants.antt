@@ -1,4 +1,3 @@
---
 use Prim.Native.Nat.{◌+◌, ◌*◌, ◌≤◌}
 use Rattle.terms.specs.Rotation.{met_by, partner_by}
 use Rattle.terms.specs.Branch.{branch_to}

@@ -1,4 +1,3 @@
---
 use mathlib.Core.Path.{◌≡◌, refl, sym, ◌∙◌, subst}
 use native.Mathlib.Omega.{arith}
 use Rattle.rows.proofs.HoldLaws.{hold_room, room_at}

@@ -1,4 +1,3 @@
---
 use Prim.Native.Nat.{◌*◌, ◌≤◌}
 use Rattle.rows.specs.Rows.{Holds}
 use Rattle.branches.specs.Started.{lines_of}
