@@ -7,7 +7,7 @@ use Prim.Native.Nat.{ℕ, zero, suc, ◌*◌, ◌/◌, ◌%◌, ◌≤◌, ◌<�
 use native.Mathlib.Nat.{zero-mul}
 use native.Mathlib.Omega.{arith}
 use lib.Dec.{ltb}
-use lib.ListN.{take, drop}
+use lib.ListN.{length, take, drop}
 use lib.Seq.{get_or-take}
 use lib.Ieee.{Float}
 use borrow.Author.Tests.{ltb-true}
@@ -18,7 +18,9 @@ use Rattle.terms.proofs.CaseLaws.{and_true}
 use Rattle.terms.proofs.ListLaws.{tab_ext}
 use Rattle.terms.proofs.LetterSteps.{Within}
 use Rattle.words.specs.Rows.{key_at}
-use Rattle.turns.specs.declared.Ending.{Ending}
+use Rattle.std.specs.Prelude.{Result}
+use Rattle.ops.specs.declared.Refusal.{Refusal}
+use Rattle.turns.specs.declared.Finished.{Finished}
 use Rattle.ops.specs.declared.Limits.{Limits}
 use Rattle.ops.specs.declared.Op.{Op}
 use Rattle.ops.specs.Ops.{targets}
@@ -28,7 +30,6 @@ use Rattle.ops.specs.declared.Run.TheVariants.{Cone}
 use Rattle.ops.specs.Task.{Task, width, sizes_fit, run_fits, reals_in_range, angles_hold, qubits_below, targets_differ, is_one, passes}
 use Rattle.dynamics.specs.Outcome.{observed}
 use Rattle.ops.specs.LineTable.{task_in}
-use Rattle.ops.specs.OpList.{op_list}
 use Rattle.turns.specs.SumRuns.{SumRan}
 use Rattle.runs.specs.ConeRuns.{Slices, ConeRan}
 use Rattle.ops.proofs.CoverLaws.{cone_is}
@@ -84,10 +85,10 @@ module _ (qubits : ℕ) (l : Limits) (keys : List ℕ) (weights : List Float) (o
       let r = and_true (qubits_below t) (targets_differ t) (and_true (angles_hold t) (qubits_below t && targets_differ t) (and_true (reals_in_range t) (angles_hold t && (qubits_below t && targets_differ t)) p.1).1).1 in
       first_marks k (one_line t q.1) (targets_below t (sizes_say t q.0).qubits r.0)
 
-pub cone_ran : (qubits : ℕ) (l : Limits) (keys : List ℕ) (weights : List Float) (k : ℕ) (codes : List ℕ) (reals : List Float) (n : ℕ) {r : Ending} {ws ws' : List ℕ} {cs cs' : List Float} {ix ix' : List ℕ}
-    → Slices weights reals l → SumRan qubits l keys weights k codes reals n (set_marks (letters_in (width_of qubits) keys) (op_list n codes reals)) r ws ws' cs cs' ix ix' → ConeRan qubits l keys weights k codes reals n r ws ws' cs cs' ix ix'
-cone_ran qubits l keys weights k codes reals n {r} {ws} {ws'} {cs} {cs'} {ix} {ix'} S R = record {
+pub cone_ran : (qubits : ℕ) (l : Limits) (keys : List ℕ) (weights : List Float) (ops : List Op) {r : Result Finished Refusal} {ws ws' : List ℕ} {cs cs' : List Float} {ix ix' : List ℕ}
+    → Slices weights ops l → SumRan qubits l keys weights ops (set_marks (letters_in (width_of qubits) keys) ops) r ws ws' cs cs' ix ix' → ConeRan qubits l keys weights ops r ws ws' cs cs' ix ix'
+cone_ran qubits l keys weights ops {r} {ws} {ws'} {cs} {cs'} {ix} {ix'} S R = record {
   always = R;
   slices = S;
-  cone = λ h. subst (λ (ms : List Bool). SumRan qubits l keys weights k codes reals n ms r ws ws' cs cs' ix ix') (cone_code qubits l keys weights (op_list n codes reals) k h) R;
+  cone = λ h. subst (λ (ms : List Bool). SumRan qubits l keys weights ops ms r ws ws' cs cs' ix ix') (cone_code qubits l keys weights ops (length weights) h) R;
 }

@@ -1,17 +1,13 @@
 -- Demand 3 of the public runs, by their contracts. Assumes nothing.
 use mathlib.Core.Path.{◌≡◌, refl, ap, ◌∙◌, subst⁻¹}
 use mathlib.Core.Bool.{Bool, true}
-use mathlib.Core.List.{List, [], ◌∷◌}
-use Prim.Native.Nat.{ℕ, zero, suc, ◌+◌, ◌*◌, min}
-use lib.ListN.{length, get_or, take}
-use lib.Ieee.{Float, nan}
+use Prim.Native.Nat.{ℕ, zero, suc}
+use lib.ListN.{length}
 use Rattle.words.specs.Keys.{width_of}
 use Rattle.terms.specs.Lists.{tab, All}
-use Rattle.ops.specs.declared.Op.TheVariants.{Barrier}
 use Rattle.ops.specs.Task.{Task}
-use Rattle.ops.specs.Binary.{IsBinary64, RealsAreBinary64, Binary64Values}
+use Rattle.ops.specs.Binary.{IsBinary64, Binary64Values}
 use Rattle.ops.specs.LineTable.{table_line}
-use Rattle.ops.specs.OpList.{numbered, op_of, op_room, op_at, ops_in, op_list}
 use Rattle.dynamics.specs.Turn.{Stage, ask, Outcome}
 use Rattle.cones.specs.LightCone.{Which, one, another, Way, as_full, as_cone, pick, Passes, Agree, SameEnd, same_refusal, both_succeed, end_as, Demand}
 use Rattle.cones.proofs.Demand.{demand3}
@@ -26,32 +22,11 @@ unfolding tab
 all_tab p zero f h = tt
 all_tab p (suc n) f h = (h zero, all_tab p n (λ i. f (suc i)) (λ i. h (suc i)))
 
-all_take : {A : Type 0} (p : A → Type 0) (n : ℕ) (l : List A) → All p l → All p (take n l)
-all_take p zero l h = tt
-all_take p (suc n) [] h = tt
-all_take p (suc n) (a ∷ l) h = (h.0, all_take p n l h.1)
-
-all_get : {A : Type 0} (p : A → Type 0) (l : List A) (i : ℕ) (d : A) → p d → All p l → p (get_or l i d)
-all_get p [] i d h x = h
-all_get p (a ∷ l) zero d h x = x.0
-all_get p (a ∷ l) (suc i) d h x = all_get p l i d h x.1
-
-op_binary : (k a b : ℕ) (x y z : Float) → IsBinary64 x → IsBinary64 y → IsBinary64 z → RealsAreBinary64 (op_of k a b x y z)
-unfolding op_of
-op_binary k a b x y z p q r = all_get RealsAreBinary64 (numbered a b x y z) k Barrier tt
-    (tt, (tt, (tt, (tt, (tt, (tt, (tt, (tt, (tt, (tt, (tt, (tt, (tt, (tt, ((p, (q, tt)), ((p, (q, tt)), ((p, (q, tt)), ((p, (q, (r, tt))), ((p, tt), ((p, tt), ((p, tt), ((p, (q, (r, tt))), ((p, tt), tt)))))))))))))))))))))))
-
-ops_binary : (n : ℕ) (codes : List ℕ) (reals : List Float) → ((i : ℕ) → IsBinary64 (get_or reals i nan)) → All RealsAreBinary64 (op_list n codes reals)
-unfolding op_list ops_in op_at
-ops_binary n codes reals h = all_take RealsAreBinary64 (min n 4096) (ops_in codes reals)
-    (all_tab RealsAreBinary64 (op_room (length codes) (length reals)) (op_at codes reals) (λ i. op_binary (get_or codes (3 * i) 0) (get_or codes (3 * i + 1) 0) (get_or codes (3 * i + 2) 0) (get_or reals (3 * i) nan) (get_or reals (3 * i + 1) nan) (get_or reals (3 * i + 2) nan)
-    (h (3 * i)) (h (3 * i + 1)) (h (3 * i + 2))))
-
 slices_values : (g : Given) → HeldBySlices g → Binary64Values (task_given g)
 slices_values g s = record {
   epsilon = s.epsilon;
-  weights = all_tab (λ l. IsBinary64 l.weight) g.lines (table_line (width_of g.qubits) g.keys g.weights) s.weights;
-  reals = ops_binary g.ops g.codes g.reals s.reals;
+  weights = all_tab (λ l. IsBinary64 l.weight) (length g.weights) (table_line (width_of g.qubits) g.keys g.weights) s.weights;
+  reals = s.reals;
 }
 
 -- ---- what a call answers

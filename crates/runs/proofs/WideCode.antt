@@ -12,7 +12,9 @@ use Rattle.words.specs.Keys.{width_of}
 use Rattle.terms.specs.Lists.{tab}
 use Rattle.terms.proofs.CaseLaws.{and_true}
 use Rattle.terms.proofs.ListLaws.{tab_snoc}
-use Rattle.turns.specs.declared.Ending.{Ending}
+use Rattle.std.specs.Prelude.{Result}
+use Rattle.ops.specs.declared.Refusal.{Refusal}
+use Rattle.turns.specs.declared.Finished.{Finished}
 use Rattle.ops.specs.declared.Limits.{Limits}
 use Rattle.ops.specs.declared.Op.{Op}
 use Rattle.ops.specs.Marks.{member}
@@ -22,7 +24,6 @@ use Rattle.ops.specs.declared.Run.TheVariants.{Wide}
 use Rattle.ops.specs.Task.{Line, Task, qubits_of, sizes_fit, run_fits, reals_in_range, angles_hold, qubits_below, targets_differ, passes}
 use Rattle.dynamics.specs.Outcome.{all_letters, wide_marks}
 use Rattle.ops.specs.LineTable.{table_line, task_in}
-use Rattle.ops.specs.OpList.{op_list}
 use Rattle.turns.specs.SumRuns.{SumRan}
 use Rattle.runs.specs.ConeRuns.{WideRan}
 use Rattle.ops.proofs.CoverLaws.{member_below}
@@ -69,11 +70,11 @@ module _ (qubits : ℕ) (l : Limits) (keys : List ℕ) (weights : List Float) (o
       let r = and_true (qubits_below t) (targets_differ t) (and_true (angles_hold t) (qubits_below t && targets_differ t) (and_true (reals_in_range t) (angles_hold t && (qubits_below t && targets_differ t)) p.1).1).1 in
       any_marks (width_of qubits) keys k (all_letters (width_of qubits) t.lines) ops (λ j below. member_any (width_of qubits) keys weights k j) (targets_below t (sizes_say t q.0).qubits r.0)
 
-pub wide_ran : (qubits : ℕ) (l : Limits) (keys : List ℕ) (weights : List Float) (k : ℕ) (codes : List ℕ) (reals : List Float) (n : ℕ) {r : Ending} {ws ws' : List ℕ} {cs cs' : List Float} {ix ix' : List ℕ}
-    → SumRan qubits l keys weights k codes reals n (set_marks (letters_in_any (width_of qubits) keys (min k (length keys / (2 * width_of qubits)))) (op_list n codes reals)) r ws ws' cs cs' ix ix'
-    → WideRan qubits l keys weights k codes reals n r ws ws' cs cs' ix ix'
-wide_ran qubits l keys weights k codes reals n {r} {ws} {ws'} {cs} {cs'} {ix} {ix'} R = record {
+pub wide_ran : (qubits : ℕ) (l : Limits) (keys : List ℕ) (weights : List Float) (ops : List Op) {r : Result Finished Refusal} {ws ws' : List ℕ} {cs cs' : List Float} {ix ix' : List ℕ}
+    → SumRan qubits l keys weights ops (set_marks (letters_in_any (width_of qubits) keys (min (length weights) (length keys / (2 * width_of qubits)))) ops) r ws ws' cs cs' ix ix'
+    → WideRan qubits l keys weights ops r ws ws' cs cs' ix ix'
+wide_ran qubits l keys weights ops {r} {ws} {ws'} {cs} {cs'} {ix} {ix'} R = record {
   always = R;
-  wide = λ h there. subst (λ (ms : List Bool). SumRan qubits l keys weights k codes reals n ms r ws ws' cs cs' ix ix')
-      (ap (λ (m : ℕ). set_marks (letters_in_any (width_of qubits) keys m) (op_list n codes reals)) (min-eq_left there) ∙ wide_code qubits l keys weights (op_list n codes reals) k h) R;
+  wide = λ h there. subst (λ (ms : List Bool). SumRan qubits l keys weights ops ms r ws ws' cs cs' ix ix')
+      (ap (λ (m : ℕ). set_marks (letters_in_any (width_of qubits) keys m) ops) (min-eq_left there) ∙ wide_code qubits l keys weights ops (length weights) h) R;
 }

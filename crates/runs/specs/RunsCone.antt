@@ -4,16 +4,17 @@
 --   "that pass every question put before the run"                                  Passes, of the values; Begins, of question 2 of the slices and question 7
 --   "end in the same refusal, number .. or all succeed with numerically equal .."  SameAnswer, of the number and values that an answer tells (told_by)
 --   "every gate that 01 leaves unmarked .. meets identities only"                  Demand, of the values that the slices hold
-use Rattle.std.specs.Prelude.{◌≡◌, ℕ, true, List, Float}
+use Rattle.std.specs.Prelude.{◌≡◌, ℕ, true, List, Float, Result}
 use Rattle.words.specs.Keys.{width_of}
 use Rattle.rows.specs.Rows.{rows_in}
 use Rattle.ops.specs.declared.Limits.{Limits}
+use Rattle.ops.specs.declared.Op.{Op}
+use Rattle.ops.specs.declared.Refusal.{Refusal}
 use Rattle.ops.specs.Task.{Task}
-use Rattle.ops.specs.LineTable.{task_in}
-use Rattle.ops.specs.OpList.{op_list}
+use Rattle.ops.specs.LineTable.{task_of}
 use Rattle.dynamics.specs.Turn.{Stage, refused, going}
 use Rattle.cones.specs.LightCone.{Equal, Which, one, another, Way, as_full, as_cone, Passes, Agree, Demand}
-use Rattle.turns.specs.declared.Ending.{Ending}
+use Rattle.turns.specs.declared.Finished.{Finished}
 use Rattle.turns.specs.SumRuns.{Results, told_by, sum_fits, has_rows}
 use Rattle.runs.specs.ConeRuns.{Slices, FullRan, ConeRan}
 
@@ -23,17 +24,14 @@ pub record Given : Type 0 where
   pub limits : Limits
   pub keys : List ℕ
   pub weights : List Float
-  pub lines : ℕ
-  pub codes : List ℕ
-  pub reals : List Float
-  pub ops : ℕ
+  pub ops : List Op
 
 abbrev pub task_given : Given → Task
-task_given g = task_in g.qubits g.limits g.keys g.weights g.lines (op_list g.ops g.codes g.reals)
+task_given g = task_of g.qubits g.limits g.keys g.weights g.ops
 
 -- every f64 is a binary64
 abbrev pub HeldBySlices : Given → Type 0
-HeldBySlices g = Slices g.weights g.reals g.limits
+HeldBySlices g = Slices g.weights g.ops g.limits
 
 abbrev pub choose : Which → Given → Given → Given
 choose one g h = g
@@ -42,7 +40,7 @@ choose another g h = h
 -- a call: what it is given, its answer, and the lent memory before and after it
 pub record Call : Type 0 where
   pub given : Given
-  pub answer : Ending
+  pub answer : Result Finished Refusal
   pub words : List ℕ
   pub words' : List ℕ
   pub coeffs : List Float
@@ -53,13 +51,13 @@ pub record Call : Type 0 where
 -- the contract of `run_spd_weighted_observable_with`, and that of `run_spd_observable_light_cone`
 abbrev pub CalledAs : Way → Call → Type 0
 CalledAs as_full c = let g = c.given in
-    FullRan g.qubits g.limits g.keys g.weights g.lines g.codes g.reals g.ops c.answer c.words c.words' c.coeffs c.coeffs' c.index c.index'
+    FullRan g.qubits g.limits g.keys g.weights g.ops c.answer c.words c.words' c.coeffs c.coeffs' c.index c.index'
 CalledAs as_cone c = let g = c.given in
-    ConeRan g.qubits g.limits g.keys g.weights g.lines g.codes g.reals g.ops c.answer c.words c.words' c.coeffs c.coeffs' c.index c.index'
+    ConeRan g.qubits g.limits g.keys g.weights g.ops c.answer c.words c.words' c.coeffs c.coeffs' c.index c.index'
 
 -- questions 2 and 7 are answered yes
 pub record Begins (c : Call) : Type 0 where
-  pub fits : let g = c.given in sum_fits g.qubits g.limits g.keys g.weights g.lines g.codes g.reals g.ops ≡ true
+  pub fits : let g = c.given in sum_fits g.qubits g.limits g.keys g.weights g.ops ≡ true
   pub room : has_rows c.given.limits (rows_in (width_of c.given.qubits) c.words c.coeffs) ≡ true
 
 -- "end in the same refusal, number and line, or all succeed with numerically equal means and discarded weights and equal peaks", and equal `touched`

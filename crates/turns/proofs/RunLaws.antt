@@ -33,7 +33,7 @@ use Rattle.turns.specs.declared.Finished.{Finished}
 use Rattle.dynamics.specs.Turn.{Stage, refused, going, bind, ask, UnlessRefused, State, Outcome, finish}
 use Rattle.dynamics.specs.Runs.{turn, step, runs, marked_run}
 use Rattle.turns.specs.SumRuns.{Results, results, told_by, results_of, left_by, has_rows, Ran}
-use Rattle.turns.specs.Told.{tally, state_in, refusal_of, ending_of, Ready, Fresh, Tells, Ends}
+use Rattle.turns.specs.Told.{tally, state_in, stage_in, refusal_of, turned_of, ending_of, Ready, Fresh, Tells, Ends}
 use Rattle.dynamics.proofs.CountedRuns.{Counted, runs_counted, run_fits}
 use Rattle.turns.proofs.TurnLaws.{long, untouched}
 
@@ -149,6 +149,13 @@ number_back E.Room = refl
 number_back NotFinite = refl
 number_back TooMany = refl
 number_back Angles = refl
+
+pub turned_of_lem : (w : ℕ) (l : Limits) {r : Result Progress Refusal} {ws₀ ws : List ℕ} {cs₀ cs : List Float} {s : Stage State} → Tells w l r ws₀ ws cs₀ cs s → r ≡ turned_of s
+turned_of_lem w l {r} {ws₀} {ws} {cs₀} {cs} T = go r ∙ ap turned_of T.told
+  where
+    go : (a : Result Progress Refusal) → a ≡ turned_of (stage_in w a ws cs)
+    go (Err e) = ap Err (sym (number_back e))
+    go (Ok p) = λ k. Ok (record { count = sym (long w p.count ws cs) k; tally = p.tally })
 
 pub ending_of_lem : (run : Stage Outcome) {end : Result Finished Refusal} → told_by end ≡ results_of run → end ≡ ending_of run
 ending_of_lem run {end} e = sym (back end) ∙ ap told_end e ∙ forth run

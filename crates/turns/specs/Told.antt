@@ -31,6 +31,10 @@ abbrev pub refusal_of : ℕ → Refusal
 refusal_of n =
     get_or (Layout ∷ Layout ∷ Counts ∷ RunLines ∷ Reals ∷ Qubits ∷ Repeats ∷ Room ∷ NotFinite ∷ TooMany ∷ Layout ∷ Angles ∷ []) n Layout
 
+abbrev pub turned_of : Stage State → Result Progress Refusal
+turned_of (refused n) = Err (refusal_of n)
+turned_of (going s) = Ok (progress_of s)
+
 abbrev pub ending_of : Stage Outcome → Result Finished Refusal
 ending_of (refused n) = Err (refusal_of n)
 ending_of (going o) = Ok (record { mean = o.mean; count = length o.terms; tally = tally o.peak o.discarded o.touched })

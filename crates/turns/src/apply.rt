@@ -120,16 +120,8 @@ pub(crate) fn apply_backward(
         Op::Native(g, a, b) => apply_gate(words, coeffs, w, n, g, a, b),
         Op::T(q) => { apply_rotation(words, coeffs, index, w, n, Axis::Z(q), sine_t(), cosine_t()) }
         Op::Tdg(q) => {
-            apply_rotation(
-                words,
-                coeffs,
-                index,
-                w,
-                n,
-                Axis::Z(q),
-                -sine_t(),
-                cosine_t(),
-            )
+            let sin = -sine_t();
+            apply_rotation(words, coeffs, index, w, n, Axis::Z(q), sin, cosine_t())
         }
         Op::Rz(q, s, c) | Op::P(q, s, c) => {
             apply_rotation(words, coeffs, index, w, n, Axis::Z(q), s, c)
@@ -148,25 +140,13 @@ pub(crate) fn apply_backward(
         Op::Phase(q, g) => {
             apply_channel(words, coeffs, index, w, n, q, 0, Noise::PhaseDamping(g))
         }
-        Op::Thermal(q, d, p, e) => apply_channel(
-            words,
-            coeffs,
-            index,
-            w,
-            n,
-            q,
-            0,
-            Noise::ThermalRelaxation(d, p, e),
-        ),
-        Op::Depol2(a, b, p) => apply_channel(
-            words,
-            coeffs,
-            index,
-            w,
-            n,
-            a,
-            b,
-            Noise::TwoQubitDepolarizing(p),
-        ),
+        Op::Thermal(q, d, p, e) => {
+            let channel = Noise::ThermalRelaxation(d, p, e);
+            apply_channel(words, coeffs, index, w, n, q, 0, channel)
+        }
+        Op::Depol2(a, b, p) => {
+            let channel = Noise::TwoQubitDepolarizing(p);
+            apply_channel(words, coeffs, index, w, n, a, b, channel)
+        }
     }
 }

@@ -11,7 +11,7 @@ pub returns-in-T : goal.returns-in-T
 returns-in-T c = acted_t _ _ _ _ _ _ c.in-T.is c.sine_t.ensures c.cosine_t.ensures c.apply_rotation.ensures
 
 pub returns-in-Tdg : goal.returns-in-Tdg
-returns-in-Tdg c = acted_tdg _ _ _ _ _ _ c.in-Tdg.is c.sine_t-in-Tdg.ensures c.cosine_t-in-Tdg.ensures c.apply_rotation-in-Tdg.ensures
+returns-in-Tdg c = acted_tdg _ _ _ _ _ _ c.in-Tdg.is c.sine_t-sin.ensures c.cosine_t-in-Tdg.ensures c.apply_rotation-in-Tdg.ensures
 
 pub returns-in-Rzz : goal.returns-in-Rzz
 returns-in-Rzz c = acted _ _ _ (Rzz _ _ _ _) c.in-Rzz.is c.apply_rotation-in-Rzz.ensures
