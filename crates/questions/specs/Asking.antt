@@ -1,22 +1,13 @@
 -- Words of the private contracts: how the questions are asked.
-use Rattle.std.specs.Prelude.{◌≡◌, ℕ, ◌+◌, ◌≤◌, Bool, cond, List, Option, None, Some}
+use Rattle.std.specs.Prelude.{ℕ, ◌+◌, Bool, cond, List, Option, None, Some}
 use Rattle.ops.specs.declared.Op.{Op}
 use Rattle.layout.specs.declared.Head.{Head}
-use Rattle.layout.specs.Layout.{question1, term_lines, sheet_ops}
+use Rattle.layout.specs.Layout.{term_lines, sheet_ops}
 use Rattle.lines.specs.TermLines.{TermLine}
 use Rattle.questions.specs.declared.Asked.{Asked}
 use Rattle.questions.specs.declared.Asked.TheVariants.{Two, Three, Four, FiveAndSix, Eleven}
 use Rattle.questions.specs.Verdict.{Verdict}
 use Rattle.questions.specs.Questions.{question_of, unless, head_line, refused_or, term_fault, op_fault, first_fault}
-
--- what questions 3 to 7 may rely on: the sheet passes 1 and 2, and os is its op list
-pub record Sound (h : Head) (ls : List (List ℕ)) (os : List Op) : Type 0 where
-  pub laid : question1 h ls ≡ None
-  pub qubits : h.qubits ≤ 256
-  pub limit : h.limit ≤ 1048576
-  pub terms : h.terms ≤ 1024
-  pub ops : h.ops ≤ 4096
-  pub table : os ≡ sheet_ops h ls
 
 -- the number of the question that refuses a line of the head, where 5 and 6 ask of none
 abbrev pub number : Asked → ℕ

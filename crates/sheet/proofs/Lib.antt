@@ -1,14 +1,9 @@
 pub mod Cases
-pub mod OpLaws
-pub mod HeadLaws
 pub mod PassLaws
 pub mod SheetDemand
 pub mod SheetConeCases
-pub mod FirstLaws
-pub mod FaultLaws
 pub mod RunLaws
 pub mod OutcomeLaws
-pub mod VerdictLaws
 pub mod AnswerLaws
 pub mod ScreenLaws
 pub mod LengthLaws

@@ -12,14 +12,18 @@ use Rattle.ops.specs.declared.Op.{Op}
 use Rattle.dynamics.specs.Turn.{Stage, refused, going, bind, ask, State, Outcome, fine, last_drop, ended, finish}
 use Rattle.dynamics.specs.Runs.{runs, marked_run, begin}
 use Rattle.ops.specs.Marks.{mark_all}
-use Rattle.turns.specs.SumRuns.{left_by}
-use Rattle.turns.specs.Told.{ending_of}
+use Rattle.std.specs.Prelude.{Result, Ok, Err}
+use Rattle.numbers.specs.Shown.{shown_of}
+use Rattle.ops.specs.declared.Refusal.{Refusal}
+use Rattle.turns.specs.declared.Finished.{Finished}
+use Rattle.turns.specs.SumRuns.{left_by, Results, told_by, results_of}
+use Rattle.replies.specs.declared.Reply.{Reply}
 use Rattle.terms.specs.Mean.{mean_of}
 use Rattle.ops.specs.declared.Run.{Run}
 use Rattle.ops.specs.declared.Run.TheVariants.{Full, Cone, All, Path, Wide}
 use Rattle.ops.specs.Task.{Line, Task, width}
 use Rattle.dynamics.specs.Outcome.{start_of, nothing_yet, add_line, alone, fold_lines, folded, ask_totals, or_fold, sum_run, z_state, add_z, z_step, all_runs, outcome_of, t_count_of}
-use Rattle.sheet.specs.Answer.{reply_run}
+use Rattle.sheet.specs.Answer.{reply, refusal, reply_run}
 use Rattle.sheet.specs.Running.{means_count, reply_end}
 
 -- so many means, if the run succeeds
@@ -107,6 +111,15 @@ all_left t k = go (all_runs t k) (all_terms t k)
     go (going o) h = h
 
 -- ---- the reply that the end of a run stands for
+of_results : Run → ℕ → ℕ → Stage Results → Reply
+of_results r q t (refused n) = refusal n 0
+of_results r q t (going f) = reply 0 0 f.mean (shown_of f.mean) t f.peak f.touched f.discarded (means_count r q)
+
+reply_told : (r : Run) (q t : ℕ) (end : Result Finished Refusal) → reply_end r q t end ≡ of_results r q t (told_by end)
+unfolding of_results
+reply_told r q t (Err e) = refl
+reply_told r q t (Ok f) = refl
+
 pub outcome_means : (r : Run) (t : Task) → HasMeans (means_count r t.qubits) (outcome_of r t)
 outcome_means Full t = sum_means t _
 outcome_means Cone t = sum_means t _
@@ -114,9 +127,11 @@ outcome_means All t = all_means t t.qubits
 outcome_means Path t = sum_means t _
 outcome_means Wide t = sum_means t _
 
-pub reply_of_end : (r : Run) (t : Task) (ops : List Op) → reply_end r t.qubits (t_count_of r ops) (ending_of (outcome_of r t)) ≡ reply_run r ops (outcome_of r t)
-reply_of_end r t ops = go (outcome_of r t) (outcome_means r t)
+pub reply_of_end : (r : Run) (t : Task) (ops : List Op) (end : Result Finished Refusal) → told_by end ≡ results_of (outcome_of r t)
+    → reply_end r t.qubits (t_count_of r ops) end ≡ reply_run r ops (outcome_of r t)
+unfolding of_results
+reply_of_end r t ops end e = reply_told r t.qubits (t_count_of r ops) end ∙ ap (of_results r t.qubits (t_count_of r ops)) e ∙ go (outcome_of r t) (outcome_means r t)
   where
-    go : (s : Stage Outcome) → HasMeans (means_count r t.qubits) s → reply_end r t.qubits (t_count_of r ops) (ending_of s) ≡ reply_run r ops s
+    go : (s : Stage Outcome) → HasMeans (means_count r t.qubits) s → of_results r t.qubits (t_count_of r ops) (results_of s) ≡ reply_run r ops s
     go (refused n) h = refl
     go (going o) h = rw h

@@ -23,9 +23,8 @@ use Rattle.replies.specs.declared.Reply.{Reply}
 use Rattle.replies.specs.Printed.{printed}
 use Rattle.replies.specs.Written.{Printing}
 use Rattle.questions.specs.Verdict.{Verdict, RefusedAt, Passed}
-use Rattle.questions.specs.Questions.{question2, verdict}
+use Rattle.questions.specs.Questions.{question2, verdict, early_verdict}
 use Rattle.sheet.specs.Answer.{refusal, run_of, task_of, reply_run, reply_to, reply_of, means_after, means_run, means_to, LeavesBy, Answered, printed_of}
-use Rattle.questions.specs.Asking.{early_verdict}
 use Rattle.sheet.specs.Running.{means_count}
 use Rattle.sheet.specs.Screen.{bench}
 use Rattle.sheet.proofs.PassLaws.{yes_of}

@@ -7,6 +7,8 @@ ghost use Rattle.sheet.specs.Screen.{bench};
 
 use crate::answer::answer;
 use crate::replying::refusal;
+use ops::Refusal;
+use questions::Refused;
 use replies::printed::printed;
 
 // The text for an input that is longer than the longest sheet.
@@ -14,7 +16,11 @@ fn too_long_text(out: &mut [u8]) -> usize
     ensures { Printing (printed (refusal 1 0) []) result out.old out.new }
 {
     let no_means = [0.0f64; 1];
-    printed(refusal(1, 0), &no_means, out)
+    let long = Refused {
+        by: Refusal::Layout,
+        line: 0,
+    };
+    printed(refusal(long), &no_means, out)
 }
 
 // The text for a sheet, answered in 512 rows of up to four words x and four words z, and 256 mean places.
@@ -35,7 +41,8 @@ pub fn bench_text(s: &[u8], out: &mut [u8]) -> usize
     ensures { Printing (bench s.now) result out.old out.new }
 {
     if s.len() > 65536 {
-        return too_long_text(out);
+        too_long_text(out)
+    } else {
+        sheet_text(s, out)
     }
-    sheet_text(s, out)
 }

@@ -1,0 +1,26 @@
+use Rattle.std.proofs.Common.{ℕ, List, length, ap, ◌∙◌}
+use Rattle.words.specs.Keys.{width_of}
+use Rattle.rows.specs.Rows.{rows_in}
+use Rattle.ops.specs.declared.Limits.{Limits}
+use Rattle.ops.specs.declared.Op.{Op}
+use Rattle.ops.specs.declared.Run.{Run}
+use Rattle.dynamics.specs.Outcome.{outcome_of}
+use Rattle.turns.specs.SumRuns.{left_by}
+use Rattle.turns.specs.AllRuns.{all_held, all_asked, AllRan}
+use Rattle.sheet.specs.Running.{table_task}
+use Rattle.sheet.proofs.OutcomeLaws.{all_left}
+use Rattle.sheet.proofs.RunLaws.{as_sheet, all_ended}
+use Rattle.sheet.proofs.running.run_table.Goals as goal
+
+pub returns-in-All : goal.returns-in-All
+returns-in-All c =
+    let a = c.args in
+    let t = table_task a.head a.observable.keys.now a.observable.weights.now a.ops.now in
+    let n = length a.means.now in
+    let ran = c.run_spd_lowered in
+    all_ended a.head a.observable.keys.now a.observable.weights.now a.ops.now a.words.now a.coeffs.now a.means.now a.index.now c.requires c.in-All.is
+    (as_sheet a.head
+    (λ (q : ℕ) (l : Limits) (os : List Op). let rows = rows_in (width_of q) a.words.now a.coeffs.now in
+    AllRan q (all_held q l os rows n) (all_asked q l os rows n) ran.result a.words.now ran.new.words a.coeffs.now ran.new.coeffs a.means.now ran.new.means a.index.now ran.new.index)
+    c.new-circuit.ensures.qubits c.limits_of-limits.ensures c.new-circuit.ensures.ops ran.ensures)
+    (ap (λ (r : Run). left_by (outcome_of r t)) c.in-All.is ∙ all_left t t.qubits)
