@@ -1,6 +1,6 @@
 -- Terms in two lent buffers. A row has s words, its key, and one number: row i has the s words from i * s on, where s is 2 * W,
 -- and the number i. "There are as many rows as every lent row buffer holds whole."
-use Rattle.std.specs.Prelude.{◌≡◌, ℕ, ◌+◌, ◌-◌, ◌*◌, ◌/◌, ◌≤◌, min, cond, ◌&&◌, List, [], ◌∷◌, ◌++◌, leb, length, take, drop, get_or, set, replicate, Float}
+use Rattle.std.specs.Prelude.{◌≡◌, ℕ, ◌+◌, ◌-◌, ◌*◌, ◌/◌, ◌≤◌, min, cond, ◌&&◌, Option, Some, None, List, [], ◌∷◌, ◌++◌, leb, length, take, drop, get_or, set, replicate, Float}
 use Rattle.std.specs.Float.{nan}
 use Rattle.numbers.specs.Constants.{zero64}
 use Rattle.words.specs.Keys.{Key}
@@ -57,6 +57,11 @@ Grown w n ts r ws ws' cs cs' = Stepped w (2 * n) (length ts) n ts r ws ws' cs cs
 -- at the targets qs. Without the rows, or words for the targets, it meets none.
 abbrev pub met_in : ℕ → List ℕ → ℕ → List ℕ → List Float → ℕ
 met_in w qs n ws cs = cond (leb n (rows_in w ws cs) && in_words w qs) (met_terms w qs (terms_in (2 * w) n ws cs)) 0
+
+-- the targets of a step: one, and a second where there is one
+abbrev pub targets : ℕ → Option ℕ → List ℕ
+targets a None = a ∷ []
+targets a (Some b) = a ∷ b ∷ []
 
 -- ---- words of the private contracts
 

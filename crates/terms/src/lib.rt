@@ -4,13 +4,6 @@
 pub mod channels;
 pub mod number;
 
-// What a search over rows finds.
-#[derive(Clone, Copy)]
-pub enum Found {
-    At(usize),
-    Nothing,
-}
-
 // A rotation's targets: rz, p, t and tdg have one, rzz has two.
 #[derive(Clone, Copy)]
 pub enum Axis {
