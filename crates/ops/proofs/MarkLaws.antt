@@ -191,7 +191,7 @@ letters_lines w keys n i e s long same = letters_of (letter_in_any w keys i) s l
 
 -- ---- the inverse light cone
 -- the targets of an op, at most two, are those that the code has
-list_packed : (op : Op) → list_of (packed (targets op)) ≡ targets op
+pub list_packed : (op : Op) → list_of (packed (targets op)) ≡ targets op
 list_packed (Native g a b) = go (has_two_targets g)
   where
     go : (two : Bool) → list_of (packed (cond two (a ∷ b ∷ []) (a ∷ []))) ≡ cond two (a ∷ b ∷ []) (a ∷ [])

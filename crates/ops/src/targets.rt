@@ -1,9 +1,11 @@
 // Whether the words of a row have an op's targets.
 ghost use Rattle.std.specs.Prelude.{◌≡◌, [], ◌∷◌};
-ghost use Rattle.terms.specs.Met.{targets};
 ghost use Rattle.ops.specs.Ops.{on_words};
+ghost use Rattle.ops.specs.Sets.{list_of};
 
-#[tactic(auto, using(crate::proofs::TargetLaws::qubit_test), unfolding(crate::specs::Ops::on_words))]
+use crate::marks::Targets;
+
+#[tactic(auto, using(crate::proofs::TargetLaws::qubit_on))]
 pub fn has_qubit(w: usize, q: usize) -> bool
     ensures { result ≡ on_words w (q ∷ []) }
 {
@@ -18,11 +20,13 @@ pub fn has_pair(w: usize, a: usize, b: usize) -> bool
     has_qubit(w, a) && has_qubit(w, b) && a != b
 }
 
-pub fn has_targets(w: usize, a: usize, b: Option<usize>) -> bool
-    ensures { result ≡ on_words w (targets a b) }
+#[tactic(auto, unfolding(crate::specs::Ops::on_words))]
+pub fn has_targets(w: usize, targets: Targets) -> bool
+    ensures { result ≡ on_words w (list_of targets) }
 {
-    match b {
-        None => has_qubit(w, a),
-        Some(b) => has_pair(w, a, b),
+    match targets {
+        Targets::Nothing => true,
+        Targets::One(a) => has_qubit(w, a),
+        Targets::Two(a, b) => has_pair(w, a, b),
     }
 }

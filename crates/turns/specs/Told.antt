@@ -2,8 +2,6 @@
 use Rattle.std.specs.Prelude.{◌≡◌, Bool, cond, ◌&&◌, List, [], ◌∷◌, ℕ, ◌*◌, ◌≤◌, max, leb, length, get_or, Float, Result, Ok, Err, IfOk}
 use Rattle.terms.specs.Term.{Term, Distinct}
 use Rattle.numbers.specs.Tests.{is_finite}
-use Rattle.terms.specs.Met.{met_terms}
-use Rattle.rows.specs.declared.Step.{Step}
 use Rattle.rows.specs.Rows.{terms_in, rows_in, Holds}
 use Rattle.sums.specs.Steps.{finite_rows}
 use Rattle.ops.specs.declared.Limits.{Limits}
@@ -14,7 +12,6 @@ use Rattle.ops.specs.Refusals.{number_of}
 use Rattle.turns.specs.declared.Tally.{Tally}
 use Rattle.turns.specs.declared.Progress.{Progress}
 use Rattle.turns.specs.declared.Finished.{Finished}
-use Rattle.ops.specs.Ops.{on_words}
 use Rattle.turns.specs.SumRuns.{left_by, told_by, results_of}
 use Rattle.dynamics.specs.Turn.{Stage, refused, going, State, state, checked, Outcome}
 
@@ -94,8 +91,3 @@ within_of l p = cond (leb p.count l.limit) (Ok (record { count = p.count; tally 
 -- questions 8 and 9 read no words
 abbrev pub CheckedIn : Limits → Progress → List Float → Result Progress Refusal → Type 0
 CheckedIn l p cs r = (w : ℕ) (ws : List ℕ) → stage_in w r ws cs ≡ checked l (state_in w p ws cs)
-
--- the terms in at most 2 * n rows, where the words have the targets qs: what an op makes of them, and how many it met; else all as it was
-abbrev pub Applied : ℕ → ℕ → List ℕ → List Term → Step → List ℕ → List ℕ → List Float → List Float → Type 0
-Applied w n qs ts r ws ws' cs cs' =
-    (r.met ≡ cond (on_words w qs) (met_terms w qs (terms_in (2 * w) n ws cs)) 0) × Holds (2 * w) (2 * n) r.count (cond (on_words w qs) ts (terms_in (2 * w) n ws cs)) ws ws' cs cs'

@@ -61,19 +61,10 @@ fn all_rows(
     ensures { AllTold w circuit.entry.qubits result words.old words.new coeffs.old coeffs.new means.old means.new
         (all_to w limits marks.now circuit.entry.ops.now circuit.entry.qubits) }
 {
+    let ops = circuit.ops;
     let mut tally = Tally::begun(0);
     for q in 0..circuit.qubits {
-        let end = run_z(
-            q,
-            tally,
-            circuit.ops,
-            marks,
-            limits,
-            words,
-            coeffs,
-            index,
-            w,
-        )?;
+        let end = run_z(q, tally, ops, marks, limits, words, coeffs, index, w)?;
         means[q] = end.mean;
         let touched = tally.touched + end.tally.touched;
         tally = Tally {

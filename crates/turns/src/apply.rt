@@ -1,71 +1,20 @@
 // What each op does to the terms in the rows.
-ghost use Rattle.std.specs.Prelude.{◌≡◌, map, ◌*◌, ◌≤◌};
+ghost use Rattle.std.specs.Prelude.{◌≡◌, ◌*◌, ◌≤◌, length};
 ghost use Rattle.numbers.specs.Constants.{sine_t, cosine_t};
-ghost use Rattle.ops.specs.Ops.{on_words};
-ghost use Rattle.terms.specs.Met.{gate_targets, axis_targets, kind_targets};
-ghost use Rattle.terms.specs.Term.{Distinct, conjugated};
+ghost use Rattle.terms.specs.Met.{kind_targets};
+ghost use Rattle.terms.specs.Term.{Distinct};
 ghost use Rattle.terms.specs.Channel.{action_of};
-ghost use Rattle.rows.specs.Rows.{terms_in, rows_in, Holds};
-ghost use Rattle.dynamics.specs.Acts.{turned, noisy, act, met};
-ghost use Rattle.turns.specs.Told.{Applied};
+ghost use Rattle.rows.specs.Rows.{terms_in, rows_in, met_in, Grown, Holds};
+ghost use Rattle.dynamics.specs.Acts.{noisy, act, met};
 
+use branches::channels::apply_backward_channel;
 use branches::rotation::{Rotation, branch_rotation};
-use ops::{Op, targets};
+use ops::Op;
+use ops::marks::targets_of;
+use ops::targets::has_targets;
 use rows::Step;
+use sums::gates::conjugate_all_backward_phased;
 use terms::{Axis, NoiseChannel as Noise};
-use words::Gate;
-use words::gates::has_two_targets;
-
-// A native gate.
-fn apply_gate(
-    words: &mut [u64],
-    coeffs: &mut [f64],
-    w: usize,
-    n: usize,
-    gate: Gate,
-    a: usize,
-    b: usize,
-) -> Step
-    requires { (2 * n ≤ rows_in w words.old coeffs.old) × Distinct (terms_in (2 * w) n words.old coeffs.old) }
-    ensures { Applied w n (gate_targets gate a b) (map (conjugated w gate a b) (terms_in (2 * w) n words.old coeffs.old)) result
-        words.old words.new coeffs.old coeffs.new }
-{
-    let second = has_two_targets(gate).then_some(b);
-    if targets::has_targets(w, a, second) {
-        let met = sums::gates::conjugate_all_backward_phased(words, coeffs, w, n, gate, a, b);
-        return Step { count: n, met };
-    }
-    Step { count: n, met: 0 }
-}
-
-// Whether the words have a rotation's targets.
-fn has_axis(w: usize, axis: Axis) -> bool
-    ensures { result ≡ on_words w (axis_targets axis) }
-{
-    match axis {
-        Axis::Z(q) => targets::has_qubit(w, q),
-        Axis::Zz(a, b) => targets::has_pair(w, a, b),
-    }
-}
-
-// t, tdg, rz, p and rzz.
-fn apply_rotation(
-    words: &mut [u64],
-    coeffs: &mut [f64],
-    index: &mut [u32],
-    w: usize,
-    n: usize,
-    rotation: Rotation,
-) -> Step
-    requires { (2 * n ≤ rows_in w words.old coeffs.old) × Distinct (terms_in (2 * w) n words.old coeffs.old) }
-    ensures { Applied w n (axis_targets rotation.axis) (turned w rotation.axis rotation.sin rotation.cos (terms_in (2 * w) n words.old coeffs.old)) result
-        words.old words.new coeffs.old coeffs.new }
-{
-    if has_axis(w, rotation.axis) {
-        return branch_rotation(words, coeffs, index, w, n, rotation);
-    }
-    Step { count: n, met: 0 }
-}
 
 // A channel, at one target or two.
 fn apply_channel(
@@ -74,20 +23,16 @@ fn apply_channel(
     index: &mut [u32],
     w: usize,
     n: usize,
+    channel: Noise,
     a: usize,
     b: usize,
-    channel: Noise,
 ) -> Step
-    requires { (2 * n ≤ rows_in w words.old coeffs.old) × Distinct (terms_in (2 * w) n words.old coeffs.old) }
-    ensures { Applied w n (kind_targets (action_of channel).kind a b) (noisy w a b channel (terms_in (2 * w) n words.old coeffs.old)) result
-        words.old words.new coeffs.old coeffs.new }
+    ensures { ((result.met ≡ met_in w (kind_targets (action_of channel).kind a b) n words.old coeffs.old)
+        × Grown w n (noisy w a b channel (terms_in (2 * w) n words.old coeffs.old)) result.count
+        words.old words.new coeffs.old coeffs.new) × (length index.new ≡ length index.old) }
 {
     let action = terms::channels::channel_action(channel);
-    let second = action.kind.acts_on_two().then_some(b);
-    if targets::has_targets(w, a, second) {
-        return branches::channels::apply_backward_channel(words, coeffs, index, w, n, action, a, b);
-    }
-    Step { count: n, met: 0 }
+    apply_backward_channel(words, coeffs, index, w, n, action, a, b)
 }
 
 // t's sine and cosine, by their bits.
@@ -101,6 +46,16 @@ fn cosine_t() -> f64
     ensures { result ≡ cosine_t }
 {
     numbers::bits::of_bits(0x3fe6_a09e_667f_3bcd)
+}
+
+fn about_z(q: usize, sin: f64, cos: f64) -> Rotation
+    ensures { result ≡ record { axis = Axis.Z q; sin = sin; cos = cos } }
+{
+    Rotation {
+        axis: Axis::Z(q),
+        sin,
+        cos,
+    }
 }
 
 // The first n terms through one op. The answer is the number of terms, and how many the op met.
@@ -117,56 +72,46 @@ pub(crate) fn apply_backward(
         × Holds (2 * w) (2 * n) result.count (act w op (terms_in (2 * w) n words.old coeffs.old))
         words.old words.new coeffs.old coeffs.new }
 {
+    if !has_targets(w, targets_of(op)) {
+        return Step { count: n, met: 0 };
+    }
     match op {
-        Op::Native(g, a, b) => apply_gate(words, coeffs, w, n, g, a, b),
-        Op::T(q) => {
-            let (axis, sin, cos) = (Axis::Z(q), sine_t(), cosine_t());
-            apply_rotation(words, coeffs, index, w, n, Rotation { axis, sin, cos })
+        Op::Native(g, a, b) => {
+            let met = conjugate_all_backward_phased(words, coeffs, w, n, g, a, b);
+            Step { count: n, met }
         }
+        Op::T(q) => branch_rotation(words, coeffs, index, w, n, about_z(q, sine_t(), cosine_t())),
         Op::Tdg(q) => {
-            let (axis, sin, cos) = (Axis::Z(q), -sine_t(), cosine_t());
-            apply_rotation(words, coeffs, index, w, n, Rotation { axis, sin, cos })
+            let rotation = about_z(q, -sine_t(), cosine_t());
+            branch_rotation(words, coeffs, index, w, n, rotation)
         }
-        Op::Rz(q, sin, cos) | Op::P(q, sin, cos) => {
-            let axis = Axis::Z(q);
-            apply_rotation(words, coeffs, index, w, n, Rotation { axis, sin, cos })
+        Op::Rz(q, s, c) | Op::P(q, s, c) => {
+            branch_rotation(words, coeffs, index, w, n, about_z(q, s, c))
         }
         Op::Rzz(a, b, sin, cos) => {
             let axis = Axis::Zz(a, b);
-            apply_rotation(words, coeffs, index, w, n, Rotation { axis, sin, cos })
+            branch_rotation(words, coeffs, index, w, n, Rotation { axis, sin, cos })
         }
-        Op::Barrier => Step { count: n, met: 0 },
         Op::Pauli(q, x, y, z) => {
-            apply_channel(words, coeffs, index, w, n, q, 0, Noise::Pauli(x, y, z))
+            apply_channel(words, coeffs, index, w, n, Noise::Pauli(x, y, z), q, 0)
         }
         Op::Depol(q, p) => {
-            apply_channel(words, coeffs, index, w, n, q, 0, Noise::Depolarizing(p))
+            apply_channel(words, coeffs, index, w, n, Noise::Depolarizing(p), q, 0)
         }
         Op::Damp(q, g) => {
-            apply_channel(words, coeffs, index, w, n, q, 0, Noise::AmplitudeDamping(g))
+            apply_channel(words, coeffs, index, w, n, Noise::AmplitudeDamping(g), q, 0)
         }
         Op::Phase(q, g) => {
-            apply_channel(words, coeffs, index, w, n, q, 0, Noise::PhaseDamping(g))
+            apply_channel(words, coeffs, index, w, n, Noise::PhaseDamping(g), q, 0)
         }
-        Op::Thermal(q, d, p, e) => apply_channel(
-            words,
-            coeffs,
-            index,
-            w,
-            n,
-            q,
-            0,
-            Noise::ThermalRelaxation(d, p, e),
-        ),
-        Op::Depol2(a, b, p) => apply_channel(
-            words,
-            coeffs,
-            index,
-            w,
-            n,
-            a,
-            b,
-            Noise::TwoQubitDepolarizing(p),
-        ),
+        Op::Thermal(q, d, p, e) => {
+            let channel = Noise::ThermalRelaxation(d, p, e);
+            apply_channel(words, coeffs, index, w, n, channel, q, 0)
+        }
+        Op::Depol2(a, b, p) => {
+            let channel = Noise::TwoQubitDepolarizing(p);
+            apply_channel(words, coeffs, index, w, n, channel, a, b)
+        }
+        Op::Barrier => Step { count: n, met: 0 },
     }
 }

@@ -1,45 +1,87 @@
-use Rattle.std.proofs.Common.{refl, inl, inr}
+use Rattle.std.proofs.Common.{refl, ap, inl, inr, rules}
+use Rattle.std.specs.Float.Ieee.{neg}
+use Rattle.numbers.specs.Constants.{sine_t, cosine_t}
+use Rattle.words.specs.Keys.{Words}
+use Rattle.terms.specs.declared.Axis.TheVariants.{Zz}
 use Rattle.terms.specs.declared.NoiseChannel.TheVariants as N
-use Rattle.ops.specs.declared.Op.TheVariants.{Native, Rz, P, Rzz, Pauli, Depol, Damp, Phase, Thermal, Depol2}
-use Rattle.turns.proofs.ApplyLaws.{acted, acted_t, acted_tdg, acted_channel, acted_barrier}
+use Rattle.ops.specs.declared.Op.TheVariants.{T, Tdg, Rz, P, Rzz, Pauli, Depol, Damp, Phase, Thermal, Depol2}
+use Rattle.turns.proofs.ApplyLaws.{targets_test, skipped, gate_did, rotation_did, z_did, channel_did, barrier_did}
 use Rattle.turns.proofs.apply.apply_backward.Goals as goal
 
+pub returns-then-not-has_targets : goal.returns-then-not-has_targets
+returns-then-not-has_targets c =
+    skipped c.args.w c.args.n c.args.op c.args.words.now c.args.coeffs.now (targets_test c.args.w c.args.op c.targets_of.ensures c.has_targets.ensures c.if-not-has_targets.true)
+
 pub returns-in-Native : goal.returns-in-Native
-returns-in-Native c = acted _ _ _ (Native _ _ _) c.in-Native.is c.apply_gate.ensures
+returns-in-Native c =
+    let on = targets_test c.args.w c.args.op c.targets_of.ensures c.has_targets.ensures c.if-not-has_targets.false in
+    let ok : Words c.args.words.now = λ j. search rules in
+    gate_did c.args.w c.args.n c.args.op c.args.words.now c.args.coeffs.now on c.requires.0 ok c.in-Native.g c.in-Native.a c.in-Native.b c.in-Native.is c.conjugate_all_backward_phased-met.ensures
 
 pub returns-in-T : goal.returns-in-T
-returns-in-T c = acted_t _ _ _ _ _ _ c.in-T.is c.sine_t-sin.ensures c.cosine_t-cos.ensures c.apply_rotation.ensures
+returns-in-T c =
+    let on = targets_test c.args.w c.args.op c.targets_of.ensures c.has_targets.ensures c.if-not-has_targets.false in
+    let ok : Words c.args.words.now = λ j. search rules in
+    z_did c.args.w c.args.n c.args.op c.args.words.now c.args.coeffs.now on c.requires.0 ok (T c.in-T.q) c.in-T.q sine_t cosine_t c.in-T.is c.about_z.ensures c.sine_t.ensures c.cosine_t.ensures refl refl c.requires.1 c.branch_rotation.ensures.0
 
 pub returns-in-Tdg : goal.returns-in-Tdg
-returns-in-Tdg c = acted_tdg _ _ _ _ _ _ c.in-Tdg.is c.sine_t.ensures c.cosine_t-cos-in-Tdg.ensures c.apply_rotation-in-Tdg.ensures
-
-pub returns-in-Rzz : goal.returns-in-Rzz
-returns-in-Rzz c = acted _ _ _ (Rzz _ _ _ _) c.in-Rzz.is c.apply_rotation-in-Rzz.ensures
-
-pub returns-in-Barrier : goal.returns-in-Barrier
-returns-in-Barrier c = acted_barrier c.args.w c.args.n c.args.op c.args.words.now c.args.coeffs.now c.in-Barrier.is
-
-pub returns-in-Pauli : goal.returns-in-Pauli
-returns-in-Pauli c = acted_channel _ _ _ (Pauli _ _ _ _) c.in-Pauli.is c.in-Pauli.q 0 (N.Pauli c.in-Pauli.x c.in-Pauli.y c.in-Pauli.z) refl refl c.apply_channel.ensures
-
-pub returns-in-Depol : goal.returns-in-Depol
-returns-in-Depol c = acted_channel _ _ _ (Depol _ _) c.in-Depol.is c.in-Depol.q 0 (N.Depolarizing c.in-Depol.p) refl refl c.apply_channel-in-Depol.ensures
-
-pub returns-in-Damp : goal.returns-in-Damp
-returns-in-Damp c = acted_channel _ _ _ (Damp _ _) c.in-Damp.is c.in-Damp.q 0 (N.AmplitudeDamping c.in-Damp.g) refl refl c.apply_channel-in-Damp.ensures
-
-pub returns-in-Phase : goal.returns-in-Phase
-returns-in-Phase c = acted_channel _ _ _ (Phase _ _) c.in-Phase.is c.in-Phase.q 0 (N.PhaseDamping c.in-Phase.g) refl refl c.apply_channel-in-Phase.ensures
-
-pub returns-in-Thermal : goal.returns-in-Thermal
-returns-in-Thermal c = acted_channel _ _ _ (Thermal _ _ _ _) c.in-Thermal.is c.in-Thermal.q 0 (N.ThermalRelaxation c.in-Thermal.d c.in-Thermal.p c.in-Thermal.e) refl refl c.apply_channel-in-Thermal.ensures
-
-pub returns-in-Depol2 : goal.returns-in-Depol2
-returns-in-Depol2 c = acted_channel _ _ _ (Depol2 _ _ _) c.in-Depol2.is c.in-Depol2.a c.in-Depol2.b (N.TwoQubitDepolarizing c.in-Depol2.p) refl refl c.apply_channel-in-Depol2.ensures
+returns-in-Tdg c =
+    let on = targets_test c.args.w c.args.op c.targets_of.ensures c.has_targets.ensures c.if-not-has_targets.false in
+    let ok : Words c.args.words.now = λ j. search rules in
+    z_did c.args.w c.args.n c.args.op c.args.words.now c.args.coeffs.now on c.requires.0 ok (Tdg c.in-Tdg.q) c.in-Tdg.q (neg sine_t) cosine_t c.in-Tdg.is c.about_z-rotation.ensures (ap neg c.sine_t-in-Tdg.ensures) c.cosine_t-in-Tdg.ensures refl refl c.requires.1
+    c.branch_rotation-in-Tdg.ensures.0
 
 pub returns-in-Rz : goal.returns-in-Rz
 returns-in-Rz c =
+    let on = targets_test c.args.w c.args.op c.targets_of.ensures c.has_targets.ensures c.if-not-has_targets.false in
+    let ok : Words c.args.words.now = λ j. search rules in
     elim c.in-Rz.is [
-      | inl e ↦ acted c.args.w c.args.n c.args.op (Rz c.in-Rz.q c.in-Rz.sin c.in-Rz.cos) e c.apply_rotation-in-Rz.ensures
-      | inr e ↦ acted c.args.w c.args.n c.args.op (P c.in-Rz.q c.in-Rz.sin c.in-Rz.cos) e c.apply_rotation-in-Rz.ensures
+      | inl e ↦ z_did c.args.w c.args.n c.args.op c.args.words.now c.args.coeffs.now on c.requires.0 ok (Rz c.in-Rz.q c.in-Rz.s c.in-Rz.c) c.in-Rz.q c.in-Rz.s c.in-Rz.c e c.about_z-in-Rz.ensures refl refl refl refl c.requires.1 c.branch_rotation-in-Rz.ensures.0
+      | inr e ↦ z_did c.args.w c.args.n c.args.op c.args.words.now c.args.coeffs.now on c.requires.0 ok (P c.in-Rz.q c.in-Rz.s c.in-Rz.c) c.in-Rz.q c.in-Rz.s c.in-Rz.c e c.about_z-in-Rz.ensures refl refl refl refl c.requires.1 c.branch_rotation-in-Rz.ensures.0
     ]
+
+pub returns-in-Rzz : goal.returns-in-Rzz
+returns-in-Rzz c =
+    let on = targets_test c.args.w c.args.op c.targets_of.ensures c.has_targets.ensures c.if-not-has_targets.false in
+    let ok : Words c.args.words.now = λ j. search rules in
+    rotation_did c.args.w c.args.n c.args.op c.args.words.now c.args.coeffs.now on c.requires.0 ok (Rzz c.in-Rzz.a c.in-Rzz.b c.in-Rzz.sin c.in-Rzz.cos) (record { axis = Zz c.in-Rzz.a c.in-Rzz.b; sin = c.in-Rzz.sin; cos = c.in-Rzz.cos }) c.in-Rzz.is refl refl c.requires.1
+    c.branch_rotation-in-Rzz.ensures.0
+
+pub returns-in-Pauli : goal.returns-in-Pauli
+returns-in-Pauli c =
+    let on = targets_test c.args.w c.args.op c.targets_of.ensures c.has_targets.ensures c.if-not-has_targets.false in
+    let ok : Words c.args.words.now = λ j. search rules in
+    channel_did c.args.w c.args.n c.args.op c.args.words.now c.args.coeffs.now on c.requires.0 ok (Pauli c.in-Pauli.q c.in-Pauli.x c.in-Pauli.y c.in-Pauli.z) (N.Pauli c.in-Pauli.x c.in-Pauli.y c.in-Pauli.z) c.in-Pauli.q 0 c.in-Pauli.is refl refl c.apply_channel.ensures.0
+
+pub returns-in-Depol : goal.returns-in-Depol
+returns-in-Depol c =
+    let on = targets_test c.args.w c.args.op c.targets_of.ensures c.has_targets.ensures c.if-not-has_targets.false in
+    let ok : Words c.args.words.now = λ j. search rules in
+    channel_did c.args.w c.args.n c.args.op c.args.words.now c.args.coeffs.now on c.requires.0 ok (Depol c.in-Depol.q c.in-Depol.p) (N.Depolarizing c.in-Depol.p) c.in-Depol.q 0 c.in-Depol.is refl refl c.apply_channel-in-Depol.ensures.0
+
+pub returns-in-Damp : goal.returns-in-Damp
+returns-in-Damp c =
+    let on = targets_test c.args.w c.args.op c.targets_of.ensures c.has_targets.ensures c.if-not-has_targets.false in
+    let ok : Words c.args.words.now = λ j. search rules in
+    channel_did c.args.w c.args.n c.args.op c.args.words.now c.args.coeffs.now on c.requires.0 ok (Damp c.in-Damp.q c.in-Damp.g) (N.AmplitudeDamping c.in-Damp.g) c.in-Damp.q 0 c.in-Damp.is refl refl c.apply_channel-in-Damp.ensures.0
+
+pub returns-in-Phase : goal.returns-in-Phase
+returns-in-Phase c =
+    let on = targets_test c.args.w c.args.op c.targets_of.ensures c.has_targets.ensures c.if-not-has_targets.false in
+    let ok : Words c.args.words.now = λ j. search rules in
+    channel_did c.args.w c.args.n c.args.op c.args.words.now c.args.coeffs.now on c.requires.0 ok (Phase c.in-Phase.q c.in-Phase.g) (N.PhaseDamping c.in-Phase.g) c.in-Phase.q 0 c.in-Phase.is refl refl c.apply_channel-in-Phase.ensures.0
+
+pub returns-in-Thermal : goal.returns-in-Thermal
+returns-in-Thermal c =
+    let on = targets_test c.args.w c.args.op c.targets_of.ensures c.has_targets.ensures c.if-not-has_targets.false in
+    let ok : Words c.args.words.now = λ j. search rules in
+    channel_did c.args.w c.args.n c.args.op c.args.words.now c.args.coeffs.now on c.requires.0 ok (Thermal c.in-Thermal.q c.in-Thermal.d c.in-Thermal.p c.in-Thermal.e) (N.ThermalRelaxation c.in-Thermal.d c.in-Thermal.p c.in-Thermal.e) c.in-Thermal.q 0 c.in-Thermal.is refl refl c.apply_channel-in-Thermal.ensures.0
+
+pub returns-in-Depol2 : goal.returns-in-Depol2
+returns-in-Depol2 c =
+    let on = targets_test c.args.w c.args.op c.targets_of.ensures c.has_targets.ensures c.if-not-has_targets.false in
+    let ok : Words c.args.words.now = λ j. search rules in
+    channel_did c.args.w c.args.n c.args.op c.args.words.now c.args.coeffs.now on c.requires.0 ok (Depol2 c.in-Depol2.a c.in-Depol2.b c.in-Depol2.p) (N.TwoQubitDepolarizing c.in-Depol2.p) c.in-Depol2.a c.in-Depol2.b c.in-Depol2.is refl refl c.apply_channel-in-Depol2.ensures.0
+
+pub returns-in-Barrier : goal.returns-in-Barrier
+returns-in-Barrier c = barrier_did c.args.w c.args.n c.args.op c.args.words.now c.args.coeffs.now c.in-Barrier.is
