@@ -110,13 +110,14 @@ pub fn clifford_conjugation_phase(key: &[u64], w: usize, gate: Gate, a: usize, b
     ensures { result ≡ conj_phase gate (bits_at w a b key.now) }
 {
     match gate {
-        Gate::Cx | Gate::Swap | Gate::Id => 0,
+        Gate::Cx => 0,
         Gate::H => turns_when(bit_of(key, 0, a) & bit_of(key, w, a), 2),
         Gate::S => turns_when(bit_of(key, 0, a), 3),
         Gate::Sdg => turns_when(bit_of(key, 0, a), 1),
         Gate::Sx => turns_when(bit_of(key, w, a), 1),
         Gate::Sxdg => turns_when(bit_of(key, w, a), 3),
         Gate::Cz => turns_when(bit_of(key, 0, a) & bit_of(key, 0, b), 2),
+        Gate::Swap | Gate::Id => 0,
         Gate::X => turns_when(bit_of(key, w, a), 2),
         Gate::Y => turns_when(bit_of(key, 0, a) ^ bit_of(key, w, a), 2),
         Gate::Z => turns_when(bit_of(key, 0, a), 2),
