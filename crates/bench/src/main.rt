@@ -2,5 +2,5 @@
 #![tactic(auto)]
 
 fn main(rt: HostRuntime) {
-    console::run(&mut rt.reader(), &mut rt.stdout(), &mut rt.stderr());
+    let _delivery = console::run(&mut rt.reader(), &mut rt.stdout(), &mut rt.stderr());
 }

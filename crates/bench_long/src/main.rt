@@ -1,6 +1,7 @@
 // `bench` on an input of 65,537 bytes, one more than the longest sheet has: a sheet that would be answered if it were shorter.
+// A program of its own, with the same one call: the gate runs a program on one input.
 #![tactic(auto)]
 
 fn main(rt: HostRuntime) {
-    console::run(&mut rt.reader(), &mut rt.stdout(), &mut rt.stderr());
+    let _delivery = console::run(&mut rt.reader(), &mut rt.stdout(), &mut rt.stderr());
 }

@@ -10,11 +10,10 @@ use lib.Dec.{eqb}
 use lib.ListN.{length, get_or, set, length-set}
 use lib.Seq.{get_or-set_same, get_or-set_other}
 use borrow.Author.Tests.{eq-eqb, ne_eqb}
-use Rattle.terms.specs.declared.Found.{Found}
-use Rattle.terms.specs.declared.Found.TheVariants.{At, Nothing}
+use Rattle.std.specs.Prelude.{Option, Some, None}
 use Rattle.terms.specs.Branch.{first, or_at}
 use Rattle.terms.proofs.CaseLaws.{bool_cases, eq_or_ne}
-use Rattle.branches.specs.Chains.{last, Chained, pushed, found_of}
+use Rattle.branches.specs.Chains.{last, Chained, pushed}
 
 module _ (f : ℕ → ℕ) where
   last_here : (k b : ℕ) → f k ≡ b → last f (suc k) b ≡ suc k
@@ -110,18 +109,18 @@ chained_skip f n buckets ix held out = record {
 
 -- ---- a search down a chain, for a test that only rows of the bucket pass
 
-abbrev pub or_found : Found → Found → Found
-or_found (At i) g = At i
-or_found Nothing g = g
+abbrev pub or_found : Option ℕ → Option ℕ → Option ℕ
+or_found (Some i) g = Some i
+or_found None g = g
 
-or_nothing : (g : Found) → or_found g Nothing ≡ g
-or_nothing (At i) = refl
-or_nothing Nothing = refl
+or_nothing : (g : Option ℕ) → or_found g None ≡ g
+or_nothing (Some i) = refl
+or_nothing None = refl
 
-or_taken : (g : Found) (b : Bool) (i m : ℕ) → or_found (or_at g b i) (found_of m) ≡ or_found g (found_of (cond b (suc i) m))
-or_taken (At j) b i m = refl
-or_taken Nothing true i m = refl
-or_taken Nothing false i m = refl
+or_taken : (g : Option ℕ) (b : Bool) (i : ℕ) (m : Option ℕ) → or_found (or_at g b i) m ≡ or_found g (cond b (Some i) m)
+or_taken (Some j) b i m = refl
+or_taken None true i m = refl
+or_taken None false i m = refl
 
 -- rows that fail are passed over
 first_skip : (p : ℕ → Bool) (m k : ℕ) → m ≤ k → ((j : ℕ) → m ≤ j → j < k → p j ≡ false) → first p k ≡ first p m
@@ -135,9 +134,9 @@ first_skip p m (suc k) h n = ⊎_elim
     ap (λ (t : Bool). or_at (first p k) t k) z ∙ or_false (first p k) k ∙ first_skip p m k b (λ j a c. n j a (omega arith)))
     (eq-or-lt_of_le h)
   where
-    or_false : (g : Found) (k : ℕ) → or_at g false k ≡ g
-    or_false (At i) k = refl
-    or_false Nothing k = refl
+    or_false : (g : Option ℕ) (k : ℕ) → or_at g false k ≡ g
+    or_false (Some i) k = refl
+    or_false None k = refl
 
 module _ (f : ℕ → ℕ) (p : ℕ → Bool) (b : ℕ) (alike : (j : ℕ) → p j ≡ true → f j ≡ b) where
   fails : (j : ℕ) → (f j ≡ b → ⊥) → p j ≡ false
@@ -146,9 +145,9 @@ module _ (f : ℕ → ℕ) (p : ℕ → Bool) (b : ℕ) (alike : (j : ℕ) → p
   skip : (k : ℕ) → first p k ≡ first p (last f k b)
   skip k = first_skip p (last f k b) k (last_le f k b) (λ j l h. fails j (last_past f k b j l h))
 
-  pub search_starts : (n : ℕ) → first p n ≡ or_found (first p (last f n b)) (found_of 0)
+  pub search_starts : (n : ℕ) → first p n ≡ or_found (first p (last f n b)) None
   search_starts n = skip n ∙ sym (or_nothing (first p (last f n b)))
 
-  pub search_goes : (i m : ℕ) (g : Found) → g ≡ or_found (first p (suc i)) (found_of m) → g ≡ or_found (first p (last f i b)) (found_of (cond (p i) (suc i) m))
+  pub search_goes : (i : ℕ) (m g : Option ℕ) → g ≡ or_found (first p (suc i)) m → g ≡ or_found (first p (last f i b)) (cond (p i) (Some i) m)
   unfolding first
-  search_goes i m g e = e ∙ or_taken (first p i) (p i) i m ∙ ap (λ (x : Found). or_found x (found_of (cond (p i) (suc i) m))) (skip i)
+  search_goes i m g e = e ∙ or_taken (first p i) (p i) i m ∙ ap (λ (x : Option ℕ). or_found x (cond (p i) (Some i) m)) (skip i)

@@ -15,8 +15,7 @@ use Rattle.numbers.specs.Tests.{is_zero}
 use Rattle.terms.specs.declared.Axis.TheVariants.{Z}
 use Rattle.terms.specs.declared.ChannelAction.{ChannelAction}
 use Rattle.terms.specs.declared.ChannelKind.TheVariants.{Local, Depolarizing2q}
-use Rattle.terms.specs.declared.Found.{Found}
-use Rattle.terms.specs.declared.Found.TheVariants.{At, Nothing}
+use Rattle.std.specs.Prelude.{Option, Some, None, is_some}
 use Rattle.terms.specs.Lists.{foldl}
 use Rattle.terms.specs.Coefficient.{scaled_of, plus_of}
 use Rattle.terms.specs.Term.{Term, term, no_term}
@@ -36,31 +35,31 @@ use Rattle.rows.proofs.StepLaws.{grown}
 
 -- ---- the letter, from its two bits
 
-abbrev letter_by : Bool → Bool → Found
-letter_by true true = At 1
-letter_by true false = At 0
-letter_by false true = At 2
-letter_by false false = Nothing
+abbrev letter_by : Bool → Bool → Option ℕ
+letter_by true true = Some 1
+letter_by true false = Some 0
+letter_by false true = Some 2
+letter_by false false = None
 
 pub letter_is : (w q : ℕ) (k : Key) {x z : Bool} → (b c : Bool) → x ≡ bit_at k (64 * 0 + q) → z ≡ bit_at k (z_at w q) → x ≡ b → z ≡ c → letter_by b c ≡ letter_of w q k
 unfolding letter_of
 letter_is w q k b c ex ez eb ec = sym (ap₂ pick (ap (bit_at k) (sym (zero-add q)) ∙ sym ex ∙ eb) (sym ez ∙ ec) ∙ same b c)
   where
-    pick : Bool → Bool → Found
-    pick x z = cond (x || z) (At (cond x (cond z 1 0) 2)) Nothing
+    pick : Bool → Bool → Option ℕ
+    pick x z = cond (x || z) (Some (cond x (cond z 1 0) 2)) None
 
-    same : (b c : Bool) → cond (b || c) (At (cond b (cond c 1 0) 2)) Nothing ≡ letter_by b c
+    same : (b c : Bool) → cond (b || c) (Some (cond b (cond c 1 0) 2)) None ≡ letter_by b c
     same true true = refl
     same true false = refl
     same false true = refl
     same false false = refl
 
 module _ (w q : ℕ) (k : Key) where
-  pub letter_small : (l : ℕ) → letter_of w q k ≡ At l → l < 3
+  pub letter_small : (l : ℕ) → letter_of w q k ≡ Some l → l < 3
   unfolding letter_of
   letter_small l e = go (bit_at k q) (bit_at k (z_at w q)) e
     where
-      go : (x z : Bool) → cond (x || z) (At (cond x (cond z 1 0) 2)) Nothing ≡ At l → l < 3
+      go : (x z : Bool) → cond (x || z) (Some (cond x (cond z 1 0) 2)) None ≡ Some l → l < 3
       go true true e = let p : 1 ≡ l = cc in omega arith
       go true false e = let p : 0 ≡ l = cc in omega arith
       go false true e = let p : 2 ≡ l = cc in omega arith
@@ -72,23 +71,23 @@ module _ (w q : ℕ) (lambda : List Float) (i : ℕ) (ws : List ℕ) (cs : List 
   abbrev t : Term
   t = term_at (2 * w) ws cs i
 
-  abbrev ByLetter : Found → Term
-  ByLetter (At l) = term t.key (scaled_of (get_or lambda l nan) t.coeff)
-  ByLetter Nothing = t
+  abbrev ByLetter : Option ℕ → Term
+  ByLetter (Some l) = term t.key (scaled_of (get_or lambda l nan) t.coeff)
+  ByLetter None = t
 
   by_letter : scaled_letter w q lambda t ≡ ByLetter (letter_of w q t.key)
   unfolding letter_of
   by_letter = go (has_letter w t.key q)
     where
       go : (b : Bool) → cond b (term t.key (scaled_of (get_or lambda (letter_index w q t.key) nan) t.coeff)) t
-          ≡ ByLetter (cond b (At (letter_index w q t.key)) Nothing)
+          ≡ ByLetter (cond b (Some (letter_index w q t.key)) None)
       go true = refl
       go false = refl
 
-  pub letter_none : {f : Found} → f ≡ letter_of w q (key_at (2 * w) ws i) → f ≡ Nothing → cs ≡ put_coeff cs i (scaled_letter w q lambda t).coeff
+  pub letter_none : {f : Option ℕ} → f ≡ letter_of w q (key_at (2 * w) ws i) → f ≡ None → cs ≡ put_coeff cs i (scaled_letter w q lambda t).coeff
   letter_none e n = sym (put_val_same cs i) ∙ ap (λ (u : Term). put_coeff cs i u.coeff) (sym (by_letter ∙ ap ByLetter (sym e ∙ n)))
 
-  pub letter_scaled : {f : Found} (l : ℕ) {v u : Float} {cs' : List Float} → f ≡ letter_of w q (key_at (2 * w) ws i) → f ≡ At l → v ≡ coeff_at cs i
+  pub letter_scaled : {f : Option ℕ} (l : ℕ) {v u : Float} {cs' : List Float} → f ≡ letter_of w q (key_at (2 * w) ws i) → f ≡ Some l → v ≡ coeff_at cs i
       → u ≡ scaled_of (get_or lambda l nan) v → cs' ≡ put_coeff cs i u → cs' ≡ put_coeff cs i (scaled_letter w q lambda t).coeff
   letter_scaled l e a ev eu ec =
       ec ∙ ap (put_coeff cs i) (eu ∙ ap (scaled_of (get_or lambda l nan)) ev) ∙ ap (λ (u : Term). put_coeff cs i u.coeff) (sym (by_letter ∙ ap ByLetter (sym e ∙ a)))
@@ -102,25 +101,22 @@ letter_key w q lambda t = go (has_letter w t.key q)
 
 -- ---- the letter Z
 
-abbrev is_two : Found → Bool
-is_two (At l) = eqb l 2
-is_two Nothing = false
+abbrev pub is_two : Option ℕ → Bool
+is_two (Some l) = eqb l 2
+is_two None = false
 
 z_letter : (w q : ℕ) (k : Key) → is_zletter w q k ≡ is_two (letter_of w q k)
 unfolding letter_of
 z_letter w q k = go (bit_at k q) (bit_at k (z_at w q))
   where
-    go : (x z : Bool) → (not x && z) ≡ is_two (cond (x || z) (At (cond x (cond z 1 0) 2)) Nothing)
+    go : (x z : Bool) → (not x && z) ≡ is_two (cond (x || z) (Some (cond x (cond z 1 0) 2)) None)
     go true true = refl
     go true false = refl
     go false true = refl
     go false false = refl
 
-pub not_z : (w q : ℕ) (k : Key) {f : Found} → f ≡ letter_of w q k → f ≡ Nothing → false ≡ is_zletter w q k
-not_z w q k e n = sym (z_letter w q k ∙ ap is_two (sym e ∙ n))
-
-pub maybe_z : (w q : ℕ) (k : Key) (l : ℕ) {f : Found} → f ≡ letter_of w q k → f ≡ At l → eqb l 2 ≡ is_zletter w q k
-maybe_z w q k l e a = sym (z_letter w q k ∙ ap is_two (sym e ∙ a))
+pub two_is : (w q : ℕ) (k : Key) {f : Option ℕ} → f ≡ letter_of w q k → is_two f ≡ is_zletter w q k
+two_is w q k e = ap is_two e ∙ sym (z_letter w q k)
 
 -- ---- a term added to the row that has its word, or appended
 
@@ -140,7 +136,7 @@ module _ (w q m i : ℕ) (d : Float) (ws : List ℕ) (cs : List Float) (room : R
   whole : length k ≡ s
   whole = flip_at_length (key_at s ws i) (z_at w q) ∙ length_key s ws i (room_at room i (omega arith)).0
 
-  module _ {f : Found} (is : f ≡ first (λ j. same_key (key_at s ws j) k) m) where
+  module _ {f : Option ℕ} (is : f ≡ first (λ j. same_key (key_at s ws j) k) m) where
     found : row_of (length ts) k ts ≡ f
     found =
         ap (λ (n : ℕ). first (λ j. same_key (get_or ts j no_term).key k) n) long
@@ -148,16 +144,16 @@ module _ (w q m i : ℕ) (d : Float) (ws : List ℕ) (cs : List Float) (room : R
         (λ j l z. same_key (get_d_tab m (term_at s ws cs) j no_term l z).key k)
         ∙ sym is
 
-    pub insert_below : (j : ℕ) → f ≡ At j → j < m
+    pub insert_below : (j : ℕ) → f ≡ Some j → j < m
     insert_below j e = (first_at (λ j. same_key (key_at s ws j) k) m j (sym is ∙ e)).0
 
-    pub insert_new : {ws' : List ℕ} {cs' : List Float} → f ≡ Nothing → ws' ≡ put_key s ws m (partner_by w (Z q) (key_at s ws i)) → cs' ≡ put_coeff cs m d
+    pub insert_new : {ws' : List ℕ} {cs' : List Float} → f ≡ None → ws' ≡ put_key s ws m (partner_by w (Z q) (key_at s ws i)) → cs' ≡ put_coeff cs m d
         → Holds s (m + 1) (m + 1) (insert ts (term k d)) ws ws' cs cs'
     unfolding insert partner_by
     insert_new e ew ec =
         rw (in_row k ts ∙ ap is_at (found ∙ e), ew, ec) (hold_push (hold_start s (m + 1) m ws cs) room (omega arith) (term k d) whole)
 
-    pub insert_old : (j : ℕ) {v u : Float} {cs' : List Float} → f ≡ At j → v ≡ coeff_at cs j → u ≡ plus_of v d → cs' ≡ put_coeff cs j u
+    pub insert_old : (j : ℕ) {v u : Float} {cs' : List Float} → f ≡ Some j → v ≡ coeff_at cs j → u ≡ plus_of v d → cs' ≡ put_coeff cs j u
         → Holds s m m (insert ts (term k d)) ws ws cs cs'
     unfolding insert
     insert_old j e ev eu ec =
@@ -190,21 +186,13 @@ branches_held w q f n i l {m} {r} {ws₀} {ws} {ws'} {cs₀} {cs} {cs'} e h b H 
 
 -- ---- a row times a number, if it has a letter at one of two qubits
 
-pub letter_yes : (w q : ℕ) (k : Key) (l : ℕ) {f : Found} → f ≡ letter_of w q k → f ≡ At l → true ≡ has_letter w k q
+pub letter_there : (w q : ℕ) (k : Key) {f : Option ℕ} → f ≡ letter_of w q k → is_some f ≡ has_letter w k q
 unfolding letter_of
-letter_yes w q k l e a = go (has_letter w k q) (sym e ∙ a)
+letter_there w q k e = ap is_some e ∙ go (has_letter w k q)
   where
-    go : (b : Bool) → cond b (At (letter_index w q k)) Nothing ≡ At l → true ≡ b
-    go true e = refl
-    go false e = absurd (let z : ◌≡◌ {A = ℕ} 0 1 = cc in omega arith)
-
-pub letter_no : (w q : ℕ) (k : Key) {f : Found} → f ≡ letter_of w q k → f ≡ Nothing → false ≡ has_letter w k q
-unfolding letter_of
-letter_no w q k e n = go (has_letter w k q) (sym e ∙ n)
-  where
-    go : (b : Bool) → cond b (At (letter_index w q k)) Nothing ≡ Nothing → false ≡ b
-    go true e = absurd (let z : ◌≡◌ {A = ℕ} 0 1 = cc in omega arith)
-    go false e = refl
+    go : (b : Bool) → is_some (cond b (Some (letter_index w q k)) None) ≡ b
+    go true = refl
+    go false = refl
 
 module _ (w a b : ℕ) (f : Float) (i : ℕ) (ws : List ℕ) (cs : List Float) where
   abbrev row : Term

@@ -1,19 +1,19 @@
 -- Laws of the index: a row added, keys that stay, and what a search by it finds. Assumes nothing.
-use mathlib.Core.Path.{◌≡◌, sym, ap, ap₂, ◌∙◌, subst}
+use mathlib.Core.Path.{◌≡◌, refl, sym, ap, ap₂, ◌∙◌, subst}
 use mathlib.Core.Bool.{Bool, true, false, cond, ◌&&◌, false≢true}
 use mathlib.Core.Logic.{⊎_elim}
-use mathlib.Core.List.{List, ◌++◌, append-nil}
+use mathlib.Core.List.{List, ◌++◌}
 use Prim.Native.Nat.{ℕ, suc, ◌+◌, ◌*◌, ◌≤◌, ◌<◌}
 use native.Mathlib.Nat.{not-suc-le-zero, sub-zero}
 use native.Mathlib.Omega.{arith}
 use native.Mathlib.Numerals.{add-one}
 use lib.Dec.{eqb, ltb}
-use lib.ListN.{length, get_or, drop, replicate, length-set, length-replicate, get_or-replicate, get_or-append}
-use lib.Seq.{drop-length}
+use lib.ListN.{length, get_or, take, drop, replicate, length-set, length-append, length-drop, length-replicate, get_or-replicate, get_or-append}
+use lib.Seq.{length-take-le}
 use borrow.Author.Tests.{eq-eqb, lt-ltb, le-ltb}
 use Rattle.words.specs.Keys.{Key, same_key}
 use Rattle.words.proofs.KeyLaws.{same_key_eq}
-use Rattle.terms.specs.declared.Found.{Found}
+use Rattle.std.specs.Prelude.{Option, Some, None}
 use Rattle.terms.specs.Branch.{first}
 use Rattle.terms.proofs.CaseLaws.{and_true, same_test, lt_or_le}
 use Rattle.terms.proofs.FirstLaws.{first_ext}
@@ -21,7 +21,7 @@ use Rattle.words.specs.Rows.{key_at}
 use Rattle.rows.specs.Cleared.{filled}
 use Rattle.branches.specs.declared.Sought.{Sought}
 use Rattle.branches.specs.Probe.{sought_by, files}
-use Rattle.branches.specs.Chains.{class_of, bucket_of, Chained, Linked, pushed, Filed, Indexed, Spare, found_of, Walked}
+use Rattle.branches.specs.Chains.{class_of, bucket_of, Chained, Linked, pushed, Filed, Indexed, Spare, Walked}
 use Rattle.branches.proofs.ProbeLaws.{class_sought}
 use Rattle.branches.proofs.ChainLaws.{chained_none, chained_ext, chained_more, chained_skip}
 use Rattle.branches.proofs.HashLaws.{bucket_lt}
@@ -29,11 +29,12 @@ use Rattle.branches.proofs.WalkLaws.{in_bucket}
 
 -- ---- the room
 
-pub spare_less : {m n buckets long : ℕ} → m ≤ n → Spare n buckets long → Spare m buckets long
+pub spare_less : {m n : ℕ} {buckets : Option ℕ} {long : ℕ} → m ≤ n → Spare n buckets long → Spare m buckets long
 spare_less {m} {n} {buckets} {long} h s = record {
+  some = s.some;
   few = s.few;
-  counted = λ p. let c = s.counted p in omega arith;
-  room = λ p. let r = s.room p in omega arith;
+  counted = λ b e. let c = s.counted b e in omega arith;
+  room = λ b e. let r = s.room b e in omega arith;
 }
 
 -- ---- a row more
@@ -108,24 +109,42 @@ module _ (s : Sought) (w : ℕ) (ws : List ℕ) (n buckets : ℕ) (ix : List ℕ
         (lt_or_le j n);
   }
 
-module _ (s : Sought) (w : ℕ) (ws : List ℕ) (n buckets : ℕ) (ix : List ℕ) (I : Indexed s w ws n buckets ix) (room : Spare (n + 1) buckets (length ix)) where
-  free : 0 < buckets → buckets + n < length ix
-  free h = let r = room.room h in omega arith
+-- without buckets
+pub index_absent : (s : Sought) (w : ℕ) (ws : List ℕ) (n : ℕ) {buckets : Option ℕ} (ix : List ℕ) → buckets ≡ None → Indexed s w ws n buckets ix
+index_absent s w ws n ix e = record { index = λ b h. absurd (none_some (sym e ∙ h)) }
+  where
+    none_some : {b : ℕ} → ◌≡◌ {A = Option ℕ} None (Some b) → ⊥
+    none_some q = cc
 
-  pub index_more : {vs : List ℕ} → files w s (key_at (2 * w) ws n) ≡ true → vs ≡ pushed n buckets (bucket_of buckets (class_of w s (key_at (2 * w) ws n))) ix
+-- with the buckets that are there
+pub index_some : (s : Sought) (w : ℕ) (ws : List ℕ) (n b : ℕ) {buckets : Option ℕ} (ix : List ℕ) → buckets ≡ Some b → Filed s w ws n b ix → Indexed s w ws n buckets ix
+index_some s w ws n b ix e F = record { index = λ c h. let same : b ≡ c = cc in subst (λ (m : ℕ). Filed s w ws n m ix) same F }
+
+module _ (s : Sought) (w : ℕ) (ws : List ℕ) (n b : ℕ) {buckets : Option ℕ} (ix : List ℕ) (I : Indexed s w ws n buckets ix) (room : Spare (n + 1) buckets (length ix))
+    (there : buckets ≡ Some b) where
+  free : b + n < length ix
+  free = let r = room.room b there in omega arith
+
+  pub index_more : {vs : List ℕ} → files w s (key_at (2 * w) ws n) ≡ true → vs ≡ pushed n b (bucket_of b (class_of w s (key_at (2 * w) ws n))) ix
       → Indexed s w ws (n + 1) buckets vs
-  index_more e q = record {
-    index = λ h. subst (λ (l : List ℕ). Filed s w ws (n + 1) buckets l) (sym q) (filed_more s w ws n buckets ix (I.index h) e (free h));
-  }
+  index_more {vs} e q = index_some s w ws (n + 1) b vs there (subst (λ (l : List ℕ). Filed s w ws (n + 1) b l) (sym q) (filed_more s w ws n b ix (I.index b there) e free))
 
   pub index_skip : files w s (key_at (2 * w) ws n) ≡ false → Indexed s w ws (n + 1) buckets ix
-  index_skip e = record { index = λ h. filed_skip s w ws n buckets ix (I.index h) e (free h) }
+  index_skip e = index_some s w ws (n + 1) b ix there (filed_skip s w ws n b ix (I.index b there) e free)
 
 -- ---- no rows
 
-pub cleared_all : (ix : List ℕ) {vs : List ℕ} → vs ≡ filled 0 0 (length ix) ix → vs ≡ replicate (length ix) 0
-unfolding filled
-cleared_all ix e = e ∙ (λ z. replicate (sub-zero (length ix) z) 0 ++ drop-length ix z) ∙ append-nil (replicate (length ix) 0)
+-- the buckets filled with zeros, as the code does it, a part of the memory
+module _ (b : ℕ) (ix : List ℕ) (room : b ≤ length ix) where
+  part_long : length (take b ix) ≡ b
+  part_long = length-take-le b ix room
+
+  pub filled_front : {v : List ℕ} → v ≡ replicate (length (take b ix)) 0 → v ++ drop b ix ≡ filled 0 0 b ix
+  unfolding filled
+  filled_front e = ap (λ (l : List ℕ). l ++ drop b ix) (e ∙ ap (λ (n : ℕ). replicate n 0) (part_long ∙ sym (sub-zero b)))
+
+  pub long_front : (v : List ℕ) → length v ≡ length (take b ix) → length (v ++ drop b ix) ≡ length ix
+  long_front v e = rw (length-append, length-drop, e, part_long) (omega arith)
 
 head_cleared : (ix : List ℕ) (n b : ℕ) → b < n → get_or (filled 0 0 n ix) b 0 ≡ 0
 unfolding filled
@@ -143,21 +162,21 @@ linked_none buckets ix {vs} some few room e l = record {
   chained = chained_none (λ j. buckets) buckets vs (λ b k. ap (λ (v : List ℕ). get_or v b 0) e ∙ head_cleared ix buckets b k);
 }
 
-pub index_none : (s : Sought) (w : ℕ) (ws : List ℕ) (n buckets : ℕ) (ix : List ℕ) {vs : List ℕ} → Spare n buckets (length ix) → vs ≡ filled 0 0 buckets ix
-    → length vs ≡ length ix → Indexed s w ws 0 buckets vs
-index_none s w ws n buckets ix room e l = record {
-  index = λ p. let r = room.room p in record { links = linked_none buckets ix p (room.few p) (omega arith) e l; filed = λ j h. absurd (not-suc-le-zero h) };
-}
+pub index_none : (s : Sought) (w : ℕ) (ws : List ℕ) (n b : ℕ) (ix : List ℕ) {vs : List ℕ} {buckets : Option ℕ} → Spare n buckets (length ix) → buckets ≡ Some b
+    → vs ≡ filled 0 0 b ix → length vs ≡ length ix → Indexed s w ws 0 (Some b) vs
+index_none s w ws n b ix {vs} room there e l =
+    let r = room.room b there in
+    index_some s w ws 0 b vs refl (record { links = linked_none b ix (room.some b there) (room.few b there) (omega arith) e l; filed = λ j h. absurd (not-suc-le-zero h) })
 
 -- ---- keys that stay
 
 -- the keys below n are as they were
-pub index_kept : (s : Sought) (w n buckets : ℕ) (ws vs ix : List ℕ) → ((j : ℕ) → j < n → key_at (2 * w) vs j ≡ key_at (2 * w) ws j)
+pub index_kept : (s : Sought) (w n : ℕ) (buckets : Option ℕ) (ws vs ix : List ℕ) → ((j : ℕ) → j < n → key_at (2 * w) vs j ≡ key_at (2 * w) ws j)
     → Indexed s w ws n buckets ix → Indexed s w vs n buckets ix
 index_kept s w n buckets ws vs ix same I = record {
-  index = λ p. record {
-    links = (I.index p).links;
-    filed = λ j h e. (I.index p).filed j h (ap (files w s) (sym (same j h)) ∙ e) ∙ ap (λ (k : Key). bucket_of buckets (class_of w s k)) (sym (same j h));
+  index = λ b p. record {
+    links = (I.index b p).links;
+    filed = λ j h e. (I.index b p).filed j h (ap (files w s) (sym (same j h)) ∙ e) ∙ ap (λ (k : Key). bucket_of b (class_of w s k)) (sym (same j h));
   };
 }
 
@@ -180,8 +199,8 @@ module _ (s : Sought) (w : ℕ) (ws : List ℕ) (n buckets : ℕ) (ix : List ℕ
       let k : key_at (2 * w) ws j ≡ q = same_key_eq (key_at (2 * w) ws j) q e in
       F.filed j h (ap (files w s) k ∙ files-it) ∙ ap (bucket_of buckets) (ap (class_of w s) k ∙ class_sought w s (key_at (2 * w) ws i))
 
-  pub found_one : {b r : ℕ} {g : Found} → b ≡ bucket_of buckets (class_of w s (key_at (2 * w) ws i)) → Walked s w ws n buckets ix i b r → g ≡ found_of r → g ≡ first test n
-  found_one {b} {r} eb W eg =
-      eg ∙ W.found F.links ∙ first_ext (in_bucket place b test) test n
+  pub found_one : {b : ℕ} {r : Option ℕ} → b ≡ bucket_of buckets (class_of w s (key_at (2 * w) ws i)) → Walked s w ws n buckets ix i b r → r ≡ first test n
+  found_one {b} {r} eb W =
+      W.found F.links ∙ first_ext (in_bucket place b test) test n
       (λ j h. same_test (in_bucket place b test j) (test j) (λ e. (and_true (eqb (place j) b) (test j) e).1)
       (λ e. ap₂ ◌&&◌ (eq-eqb (place j) b (in_bucket_lem j h e ∙ sym eb)) e))

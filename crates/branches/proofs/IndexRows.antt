@@ -12,8 +12,7 @@ use lib.Ieee.{Float}
 use Rattle.numbers.specs.Tests.{is_zero}
 use Rattle.words.specs.Keys.{Key, bit_at, flip_at, z_at, same_key}
 use Rattle.terms.specs.declared.Axis.{Axis}
-use Rattle.terms.specs.declared.Found.{Found}
-use Rattle.terms.specs.declared.Found.TheVariants.{At, Nothing}
+use Rattle.std.specs.Prelude.{Option, Some, None}
 use Rattle.terms.specs.Coefficient.{scaled_of}
 use Rattle.terms.specs.Term.{odd_y, Term, term, no_term}
 use Rattle.terms.specs.Rotation.{met_by, partner_by, flipped_term, mixed}
@@ -53,7 +52,7 @@ recoeff ts i k v e j = ⊎_elim
 module _ (w : ℕ) (met : Key → Bool) (partner : Key → Key) (sin cos : Float) (ts : List Term) (n i : ℕ) where
   -- row i is met and has no partner
   abbrev Lone : Type 0
-  Lone = (met (key_of ts i) ≡ true) × (row_of n (partner (key_of ts i)) ts ≡ Nothing)
+  Lone = (met (key_of ts i) ≡ true) × (row_of n (partner (key_of ts i)) ts ≡ None)
 
   -- a key as it was or, in row i without a partner, turned into the partner's
   abbrev Moved : List Term → ℕ → Type 0
@@ -104,19 +103,19 @@ module _ (w : ℕ) (met : Key → Bool) (partner : Key → Key) (sin cos : Float
   unfolding branch_row
   row_keys j h = go (met (key_of ts i)) refl
     where
-      by : met (key_of ts i) ≡ true → (f : Found) → row_of n (partner (key_of ts i)) ts ≡ f → Moved (branch_by w met partner sin cos i ts f) j
-      by e (At k) q = inl (pair_keys k j)
-      by e Nothing q = lone_keys j (e, q) h
+      by : met (key_of ts i) ≡ true → (f : Option ℕ) → row_of n (partner (key_of ts i)) ts ≡ f → Moved (branch_by w met partner sin cos i ts f) j
+      by e (Some k) q = inl (pair_keys k j)
+      by e None q = lone_keys j (e, q) h
 
       go : (b : Bool) → met (key_of ts i) ≡ b → Moved (cond b (branch_by w met partner sin cos i ts (row_of n (partner (key_of ts i)) ts)) ts) j
       go true e = by e (row_of n (partner (key_of ts i)) ts) refl
       go false e = inl refl
 
 -- the table of partners, after row i of a rotation
-pub table_rotated : (w : ℕ) (x : Axis) (sin cos : Float) (n m i r buckets : ℕ) (ix ws ws' : List ℕ) (cs cs' : List Float) → i < n → n ≤ m → m ≤ r
+pub table_rotated : (w : ℕ) (x : Axis) (sin cos : Float) (n m i r : ℕ) (buckets : Option ℕ) (ix ws ws' : List ℕ) (cs cs' : List Float) → i < n → n ≤ m → m ≤ r
     → Holds (2 * w) r r (branch_row w (met_by x) (partner_by w x) sin cos n i (terms_in (2 * w) m ws cs)) ws ws' cs cs'
     → Tabled x w ws n i buckets ix → Tabled x w ws' n (i + 1) buckets ix
-table_rotated w x sin cos n m i r buckets ix ws ws' cs cs' hi a b H T = record { table = λ p. table_moved x w ws ws' n i buckets ix hi (T.table p) (λ j h. row j (omega arith)) }
+table_rotated w x sin cos n m i r buckets ix ws ws' cs cs' hi a b H T = record { table = λ c p. table_moved x w ws ws' n i c ix hi (T.table c p) (λ j h. row j (omega arith)) }
   where
     ts : List Term
     ts = terms_in (2 * w) m ws cs
@@ -144,7 +143,7 @@ pub z_files : (w q : ℕ) (k : Key) → is_zletter w q k ≡ true → files w (I
 z_files w q k e = identity_files w q k (and_true (not (bit_at k q)) (bit_at k (z_at w q)) e).1
 
 -- the index of the first m rows, with the partner of row i as row m
-pub index_appended : (s : Sought) (w : ℕ) (x : Axis) (i m buckets : ℕ) (ix ws : List ℕ) {vs : List ℕ} → i * (2 * w) + 2 * w ≤ length ws
+pub index_appended : (s : Sought) (w : ℕ) (x : Axis) (i m : ℕ) (buckets : Option ℕ) (ix ws : List ℕ) {vs : List ℕ} → i * (2 * w) + 2 * w ≤ length ws
     → m * (2 * w) + 2 * w ≤ length ws → vs ≡ put_key (2 * w) ws m (partner_by w x (key_at (2 * w) ws i)) → Indexed s w ws m buckets ix → Indexed s w vs m buckets ix
 index_appended s w x i m buckets ix ws {vs} hi hm e I =
     let whole = partner_length w x (key_at (2 * w) ws i) ∙ length_key (2 * w) ws i hi in

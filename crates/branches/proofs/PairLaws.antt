@@ -14,8 +14,7 @@ use borrow.Author.Tests.{eq-eqb}
 use Rattle.words.specs.Keys.{Key, same_key}
 use Rattle.words.proofs.KeyLaws.{same_key_eq, same_key_refl, same_key_ne}
 use Rattle.terms.specs.declared.Axis.{Axis}
-use Rattle.terms.specs.declared.Found.{Found}
-use Rattle.terms.specs.declared.Found.TheVariants.{At, Nothing}
+use Rattle.std.specs.Prelude.{Option, Some, None, is_some}
 use Rattle.terms.specs.Branch.{first, or_at}
 use Rattle.words.specs.Letters.{is_odd}
 use Rattle.terms.specs.Term.{odd_y}
@@ -29,7 +28,7 @@ use Rattle.rows.proofs.RowLaws.{length_key, row_before}
 use Rattle.branches.specs.declared.Sought.{Sought}
 use Rattle.branches.specs.declared.Sought.TheVariants.{Partner}
 use Rattle.branches.specs.Probe.{sought_by}
-use Rattle.branches.specs.Chains.{class_of, bucket_of, Chained, Linked, pushed, found_of, Walked}
+use Rattle.branches.specs.Chains.{class_of, bucket_of, Chained, Linked, pushed, Walked}
 use Rattle.branches.specs.declared.Mate.{Mate}
 use Rattle.branches.specs.declared.Mate.TheVariants.{Done, Lone, Later}
 use Rattle.branches.specs.Pairs.{mate_of, code_at, joined, begun, passed, partner_row, NotAfter, Told, Pairing, Table}
@@ -44,34 +43,34 @@ first_past : (p : ℕ → Bool) (n : ℕ) → p n ≡ false → first p (suc n) 
 unfolding first
 first_past p n e = ap (λ (b : Bool). or_at (first p n) b n) e ∙ go (first p n)
   where
-    go : (f : Found) → or_at f false n ≡ f
-    go (At i) = refl
-    go Nothing = refl
+    go : (f : Option ℕ) → or_at f false n ≡ f
+    go (Some i) = refl
+    go None = refl
 
 module _ (K : ℕ → Key) (k : Key) where
   abbrev has : ℕ → Bool
   has j = same_key (K j) k
 
-  pub seek_at : (m j : ℕ) → first has m ≡ At j → (j < m) × (K j ≡ k)
+  pub seek_at : (m j : ℕ) → first has m ≡ Some j → (j < m) × (K j ≡ k)
   seek_at m j e = let r = first_at has m j e in (r.0, same_key_eq (K j) k r.1)
 
-  pub seek_none : (m : ℕ) → first has m ≡ Nothing → (j : ℕ) → j < m → K j ≡ k → ⊥
+  pub seek_none : (m : ℕ) → first has m ≡ None → (j : ℕ) → j < m → K j ≡ k → ⊥
   seek_none m e j h q = false≢true (sym (first_nothing has m e j h) ∙ ap (λ (l : Key). same_key l k) q ∙ same_key_refl k)
 
-  pub none_seek : (m : ℕ) → ((j : ℕ) → j < m → K j ≡ k → ⊥) → first has m ≡ Nothing
+  pub none_seek : (m : ℕ) → ((j : ℕ) → j < m → K j ≡ k → ⊥) → first has m ≡ None
   none_seek m n = go (first has m) refl
     where
-      go : (f : Found) → first has m ≡ f → f ≡ Nothing
-      go (At j) e = absurd (n j (seek_at m j e).0 (seek_at m j e).1)
-      go Nothing e = refl
+      go : (f : Option ℕ) → first has m ≡ f → f ≡ None
+      go (Some j) e = absurd (n j (seek_at m j e).0 (seek_at m j e).1)
+      go None e = refl
 
   -- row j is the only one that has the key
-  pub only_seek : (m j : ℕ) → j < m → K j ≡ k → ((i : ℕ) → i < m → K i ≡ k → i ≡ j) → first has m ≡ At j
+  pub only_seek : (m j : ℕ) → j < m → K j ≡ k → ((i : ℕ) → i < m → K i ≡ k → i ≡ j) → first has m ≡ Some j
   only_seek m j h q only = go (first has m) refl
     where
-      go : (f : Found) → first has m ≡ f → f ≡ At j
-      go (At i) e = ap At (only i (seek_at m i e).0 (seek_at m i e).1)
-      go Nothing e = absurd (seek_none m e j h q)
+      go : (f : Option ℕ) → first has m ≡ f → f ≡ Some j
+      go (Some i) e = ap Some (only i (seek_at m i e).0 (seek_at m i e).1)
+      go None e = absurd (seek_none m e j h q)
 
   pub seek_past : (m : ℕ) → (K m ≡ k → ⊥) → first has (suc m) ≡ first has m
   seek_past m n = first_past has m (same_key_ne (K m) k n)
@@ -100,6 +99,10 @@ told_same x w ws vs m l k e p (Later j odd) h = (ap (met_by x) e ∙ h.0, p h.0 
 
 -- ---- what a walk says
 
+pub none_is : (o : Option ℕ) {b : Bool} → b ≡ is_some o → b ≡ false → o ≡ None
+none_is (Some j) e q = absurd (false≢true (sym q ∙ e))
+none_is None e q = refl
+
 module _ (s : Sought) (w : ℕ) (ws : List ℕ) (m buckets : ℕ) (ix : List ℕ) (i b : ℕ) (L : Linked m buckets ix) where
   abbrev sought : Key
   sought = sought_by w s (key_at (2 * w) ws i)
@@ -107,16 +110,15 @@ module _ (s : Sought) (w : ℕ) (ws : List ℕ) (m buckets : ℕ) (ix : List ℕ
   abbrev test : ℕ → Bool
   test j = eqb (L.place j) b && same_key (key_at (2 * w) ws j) sought
 
-  pub walked_none : {r : ℕ} → Walked s w ws m buckets ix i b r → r ≡ 0 → (j : ℕ) → j < m → L.place j ≡ b → key_at (2 * w) ws j ≡ sought → ⊥
+  pub walked_none : {r : Option ℕ} → Walked s w ws m buckets ix i b r → r ≡ None → (j : ℕ) → j < m → L.place j ≡ b → key_at (2 * w) ws j ≡ sought → ⊥
   walked_none W z j h p q =
-      false≢true (sym (first_nothing test m (sym (W.found L) ∙ ap found_of z) j h)
+      false≢true (sym (first_nothing test m (sym (W.found L) ∙ z) j h)
       ∙ ap₂ ◌&&◌ (eq-eqb (L.place j) b p) (ap (λ (l : Key). same_key l sought) q ∙ same_key_refl sought))
 
-  pub walked_at : {r : ℕ} → Walked s w ws m buckets ix i b r → 0 < r → (r - 1 < m) × (key_at (2 * w) ws (r - 1) ≡ sought)
-  walked_at {r} W h =
-      let e : r ≡ suc (r - 1) = omega arith in
-      let f = first_at test m (r - 1) (sym (W.found L) ∙ ap found_of e) in
-      (f.0, same_key_eq (key_at (2 * w) ws (r - 1)) sought (and_true (eqb (L.place (r - 1)) b) (same_key (key_at (2 * w) ws (r - 1)) sought) f.1).1)
+  pub walked_at : (j : ℕ) {r : Option ℕ} → Walked s w ws m buckets ix i b r → r ≡ Some j → (j < m) × (key_at (2 * w) ws j ≡ sought)
+  walked_at j W e =
+      let f = first_at test m j (sym (W.found L) ∙ e) in
+      (f.0, same_key_eq (key_at (2 * w) ws j) sought (and_true (eqb (L.place j) b) (same_key (key_at (2 * w) ws j) sought) f.1).1)
 
 -- ---- an index that is the same up to a place
 
@@ -181,14 +183,14 @@ module _ (x : Axis) (w : ℕ) (ws : List ℕ) (n m buckets : ℕ) (ix : List ℕ
       → ((k : ℕ) → k < m → Told x w ws (suc m) k (mate_of (code_at buckets n vs k)))
       → Told x w ws (suc m) m (mate_of (code_at buckets n vs m))
       → ((k : ℕ) → k < m → Met k → K k ≡ K m → ⊥)
-      → (Met m → partner_row w x ws m m ≡ Nothing → b ≡ home (K m))
+      → (Met m → partner_row w x ws m m ≡ None → b ≡ home (K m))
       → Pairing x w ws n (m + 1) buckets vs
   more b vs l C old new apart file = subst (λ (i : ℕ). Pairing x w ws n i buckets vs) (sym (add-one m)) (record {
     room = let r = S.room in omega arith;
     links = record { some = S.links.some; few = S.links.few; room = let r = S.room in omega arith; place = put b; chained = C };
     mates = each (λ (k : ℕ). Told x w ws (suc m) k (mate_of (code_at buckets n vs k))) old new;
     apart = λ k l a b h e. each (λ (j : ℕ). k < j → K k ≡ K j → ⊥) (λ j g c q. S.apart k j c g h q) (λ c q. apart k c h q) l b a e;
-    filed = each (λ (k : ℕ). Met k → partner_row w x ws k k ≡ Nothing → put b k ≡ home (K k))
+    filed = each (λ (k : ℕ). Met k → partner_row w x ws k k ≡ None → put b k ≡ home (K k))
         (λ k h a e. sym (placed_before S.links.place m b k h) ∙ S.filed k h a e)
         (λ a e. placed_here S.links.place m b ∙ file a e);
   })
@@ -261,14 +263,14 @@ module _ (x : Axis) (w : ℕ) (ws : List ℕ) (n m buckets : ℕ) (ix : List ℕ
     mate_met = met_mate (K r) (K m) mate met
 
     -- row r has no partner among the rows before row m
-    alone : partner_row w x ws m r ≡ Nothing
+    alone : partner_row w x ws m r ≡ None
     alone = (subst (λ (c : ℕ). Told x w ws m r (mate_of c)) code (S.mates r hr)).1
 
     -- row m is row r's partner, and row r is row m's
-    found : partner_row w x ws (suc m) r ≡ At m
+    found : partner_row w x ws (suc m) r ≡ Some m
     found = first_here (has K (P (K r))) m alone (ap (same_key (K m)) (sym (swap (K r) (K m) mate)) ∙ same_key_refl (K m))
 
-    finds : partner_row w x ws (suc m) m ≡ At r
+    finds : partner_row w x ws (suc m) m ≡ Some r
     finds = seek_past K (P (K m)) m not_own ∙ only_seek K (P (K m)) m r hr mate (λ i h e. one_row i r h hr (met_mate (K i) (K m) e met) (e ∙ sym mate))
 
     other : is_odd (1 - odd) ≡ odd_y w (K r)
@@ -312,9 +314,9 @@ module _ (x : Axis) (w : ℕ) (ws : List ℕ) (n m buckets : ℕ) (ix : List ℕ
     none_before : (k : ℕ) → k < m → Met k → (K k ≡ K m) ⊎ (K k ≡ P (K m)) → ⊥
     none_before k h a c = go (partner_row w x ws k k) refl
       where
-        go : (f : Found) → partner_row w x ws k k ≡ f → ⊥
-        go Nothing e = none_linked k h (S.filed k h a e) c
-        go (At r) e =
+        go : (f : Option ℕ) → partner_row w x ws k k ≡ f → ⊥
+        go None e = none_linked k h (S.filed k h a e) c
+        go (Some r) e =
             let hr = (seek_at K (P (K k)) k r e).0 in
             let q : K r ≡ P (K k) = (seek_at K (P (K k)) k r e).1 in
             let lr : r < m = omega arith in

@@ -11,8 +11,7 @@ use lib.Ieee.{Float}
 use borrow.Author.Tests.{lt-ltb, le-ltb}
 use Rattle.numbers.specs.Tests.{is_zero}
 use Rattle.words.specs.Keys.{Key, same_key}
-use Rattle.terms.specs.declared.Found.{Found}
-use Rattle.terms.specs.declared.Found.TheVariants.{At, Nothing}
+use Rattle.std.specs.Prelude.{Option, Some, None}
 use Rattle.words.specs.Letters.{is_odd}
 use Rattle.terms.specs.Coefficient.{scaled_of, flipped_of, plus_of}
 use Rattle.terms.specs.Term.{Term, term, no_term, odd_y}
@@ -116,7 +115,7 @@ module _ (w : ℕ) (met : Key → Bool) (partner : Key → Key) (sin cos : Float
   unfolding branch_row
   row_unmet n e = rw (at_i, e) (hold_start s m m ws cs)
 
-  module _ (n : ℕ) (le : n ≤ m) (is-met : met (key_at s ws i) ≡ true) {f : Found} (is : f ≡ first (λ j. same_key (key_at s ws j) (partner (key_at s ws i))) n) where
+  module _ (n : ℕ) (le : n ≤ m) (is-met : met (key_at s ws i) ≡ true) {f : Option ℕ} (is : f ≡ first (λ j. same_key (key_at s ws j) (partner (key_at s ws i))) n) where
     found_terms : row_of n (partner (get_or ts i no_term).key) ts ≡ f
     found_terms =
         first_ext (λ j. same_key (get_or ts j no_term).key (partner (get_or ts i no_term).key)) (λ j. same_key (key_at s ws j) (partner (key_at s ws i))) n
@@ -128,15 +127,15 @@ module _ (w : ℕ) (met : Key → Bool) (partner : Key → Key) (sin cos : Float
     unfolding branch_row
     row_met H = rw (ap (λ (u : Term). met u.key) at_i ∙ is-met, found_terms) H
 
-    pub row_lone : f ≡ Nothing → {r : ℕ} {ws' : List ℕ} {cs' : List Float} → Holds s r r (branch_lone w met partner sin cos i ts) ws ws' cs cs'
+    pub row_lone : f ≡ None → {r : ℕ} {ws' : List ℕ} {cs' : List Float} → Holds s r r (branch_lone w met partner sin cos i ts) ws ws' cs cs'
         → Holds s r r (branch_row w met partner sin cos n i ts) ws ws' cs cs'
     row_lone e H = row_met (rw e H)
 
-    pub row_pair : (j : ℕ) → f ≡ At j → {cs' : List Float} → Holds s m m (branch_pair w met partner sin cos i j ts) ws ws cs cs'
+    pub row_pair : (j : ℕ) → f ≡ Some j → {cs' : List Float} → Holds s m m (branch_pair w met partner sin cos i j ts) ws ws cs cs'
         → Holds s m m (branch_row w met partner sin cos n i ts) ws ws cs cs'
     row_pair j e H = row_met (rw e H)
 
-    pub pair_below : (j : ℕ) → f ≡ At j → j < m
+    pub pair_below : (j : ℕ) → f ≡ Some j → j < m
     pair_below j e = let r = (first_at (λ j. same_key (key_at s ws j) (partner (key_at s ws i))) n j (sym is ∙ e)).0 in omega arith
 
   -- nothing is done: the row is not met, or its partner is not after it
@@ -144,12 +143,12 @@ module _ (w : ℕ) (met : Key → Bool) (partner : Key → Key) (sin cos : Float
       → Holds s m m (branch_row w met partner sin cos n i ts) ws ws cs cs
   row_done n le h = go (met (key_at s ws i)) refl
     where
-      f : Found
+      f : Option ℕ
       f = first (λ j. same_key (key_at s ws j) (partner (key_at s ws i))) n
 
-      by : met (key_at s ws i) ≡ true → (g : Found) → g ≡ f → NotAfter i g → Holds s m m (branch_row w met partner sin cos n i ts) ws ws cs cs
-      by e (At j) q a = row_pair n le e q j refl (pair_done j a)
-      by e Nothing q a = absurd a
+      by : met (key_at s ws i) ≡ true → (g : Option ℕ) → g ≡ f → NotAfter i g → Holds s m m (branch_row w met partner sin cos n i ts) ws ws cs cs
+      by e (Some j) q a = row_pair n le e q j refl (pair_done j a)
+      by e None q a = absurd a
 
       go : (b : Bool) → met (key_at s ws i) ≡ b → Holds s m m (branch_row w met partner sin cos n i ts) ws ws cs cs
       go true e = by e f refl (h e)

@@ -10,8 +10,7 @@ use lib.Ieee.{Float}
 use borrow.Author.Tests.{le-leb}
 use Rattle.words.specs.Keys.{Key, same_key}
 use Rattle.words.proofs.KeyLaws.{same_key_eq, same_key_refl}
-use Rattle.terms.specs.declared.Found.{Found}
-use Rattle.terms.specs.declared.Found.TheVariants.{At, Nothing}
+use Rattle.std.specs.Prelude.{Option, Some, None}
 use Rattle.terms.specs.Lists.{tab, foldl}
 use Rattle.terms.specs.Coefficient.{plus_of}
 use Rattle.numbers.specs.Constants.{zero64}
@@ -35,12 +34,12 @@ use Rattle.branches.proofs.FileLaws.{index_kept}
 
 -- ---- the first index that passes a test comes before every other
 
-least_or : (p : ℕ → Bool) (n j : ℕ) (f : Found) (b : Bool) → first p n ≡ f → or_at f b n ≡ At j → (first p n ≡ At j → (l : ℕ) → l < j → p l ≡ false) → (l : ℕ) → l < j → p l ≡ false
-least_or p n j (At i) b e q ih l h = ih (e ∙ q) l h
-least_or p n j Nothing true e q ih l h = let same : n ≡ j = cc in first_nothing p n e l (omega arith)
-least_or p n j Nothing false e q ih l h = absurd (let z : ◌≡◌ {A = ℕ} 0 1 = cc in omega arith)
+least_or : (p : ℕ → Bool) (n j : ℕ) (f : Option ℕ) (b : Bool) → first p n ≡ f → or_at f b n ≡ Some j → (first p n ≡ Some j → (l : ℕ) → l < j → p l ≡ false) → (l : ℕ) → l < j → p l ≡ false
+least_or p n j (Some i) b e q ih l h = ih (e ∙ q) l h
+least_or p n j None true e q ih l h = let same : n ≡ j = cc in first_nothing p n e l (omega arith)
+least_or p n j None false e q ih l h = absurd (let z : ◌≡◌ {A = ℕ} 0 1 = cc in omega arith)
 
-first_least : (p : ℕ → Bool) (n j : ℕ) → first p n ≡ At j → (l : ℕ) → l < j → p l ≡ false
+first_least : (p : ℕ → Bool) (n j : ℕ) → first p n ≡ Some j → (l : ℕ) → l < j → p l ≡ false
 unfolding first
 first_least p zero j e l h = absurd (let z : ◌≡◌ {A = ℕ} 0 1 = cc in omega arith)
 first_least p (suc n) j e l h = least_or p n j (first p n) (p n) refl e (first_least p n j) l h
@@ -92,7 +91,7 @@ module _ (k : Key) (c : Float) where
       ∙ ap (λ (l : List Term). x ∷ l) (add_new ts d (λ l b. f (suc l) (suc-le-suc b)))
 
 module _ (ts : List Term) (t : Term) where
-  pub share_at : (j : ℕ) → row_of (length ts) t.key ts ≡ At j
+  pub share_at : (j : ℕ) → row_of (length ts) t.key ts ≡ Some j
       → share ts t ≡ set ts j (term (get_or ts j no_term).key (plus_of (get_or ts j no_term).coeff t.coeff))
   unfolding share
   share_at j e =
@@ -102,7 +101,7 @@ module _ (ts : List Term) (t : Term) where
       ap (λ (b : Bool). add_to t.key t.coeff (cond b ts (ts ++ (term t.key zero64 ∷ [])))) (in_at t.key ts j f.0 here)
       ∙ add_at t.key t.coeff ts j f.0 here (λ l h. differ_back (get_or ts l no_term).key t.key (first_least p (length ts) j e l h))
 
-  pub share_new : row_of (length ts) t.key ts ≡ Nothing → share ts t ≡ ts ++ (term t.key (plus_of zero64 t.coeff) ∷ [])
+  pub share_new : row_of (length ts) t.key ts ≡ None → share ts t ≡ ts ++ (term t.key (plus_of zero64 t.coeff) ∷ [])
   unfolding share
   share_new e =
       let none : (l : ℕ) → l < length ts → same_key t.key (get_or ts l no_term).key ≡ false =
@@ -139,9 +138,9 @@ module _ {s n : ℕ} {ws₀ ws : List ℕ} {cs₀ cs : List Float} {m i : ℕ} (
   next : coalesced (terms_in s (i + 1) ws₀ cs₀) ≡ share old t
   next = fold_tab share [] (term_at s ws₀ cs₀) i ∙ ap (share old) (sym (C.todo i (omega arith)))
 
-  merge_go : (f : Found) → first (λ j. same_key (key_at s ws j) (key_at s ws i)) m ≡ f → (ws' : List ℕ) (cs' : List Float) (r : ℕ)
+  merge_go : (f : Option ℕ) → first (λ j. same_key (key_at s ws j) (key_at s ws i)) m ≡ f → (ws' : List ℕ) (cs' : List Float) (r : ℕ)
       → ws' ≡ shared_words s i m ws f → cs' ≡ shared_coeffs i m cs f → r ≡ shared_count m f → Merging s n ws₀ ws' cs₀ cs' r (i + 1)
-  merge_go (At j) e ws' cs' r ew ec er =
+  merge_go (Some j) e ws' cs' r ew ec er =
       let few = C.few in
       let now : Room s n ws cs = hold_room C.held room in
       let at = (first_at (λ j. same_key (key_at s ws j) (key_at s ws i)) m j e).0 in
@@ -154,7 +153,7 @@ module _ {s n : ℕ} {ws₀ ws : List ℕ} {cs₀ cs : List Float} {m i : ℕ} (
         todo = λ l b. (λ k. record { key = key_at s ws l; coeff = val_put_other cs j l v (λ q. omega arith) k }) ∙ C.todo l (omega arith);
         few = omega arith;
       })
-  merge_go Nothing e ws' cs' r ew ec er =
+  merge_go None e ws' cs' r ew ec er =
       let few = C.few in
       let now : Room s n ws cs = hold_room C.held room in
       let whole : length (key_at s ws i) ≡ s = length_key s ws i (room_at now i h).0 in
@@ -181,26 +180,26 @@ pub new_coeffs : (cs : List Float) (i m : ℕ) {cs' : List Float} {v u : Float} 
 new_coeffs cs i m ev eu e = e ∙ ap (put_coeff cs m) (eu ∙ ap (plus_of zero64) ev)
 
 module _ (s i m : ℕ) (ws : List ℕ) (cs : List Float) where
-  abbrev found : Found
+  abbrev found : Option ℕ
   found = first (λ j. same_key (key_at s ws j) (key_at s ws i)) m
 
-  pub found_below : (j : ℕ) {f : Found} → f ≡ found → f ≡ At j → j < m
+  pub found_below : (j : ℕ) {f : Option ℕ} → f ≡ found → f ≡ Some j → j < m
   found_below j e q = (first_at (λ j. same_key (key_at s ws j) (key_at s ws i)) m j (sym e ∙ q)).0
 
-  pub shared_at : (j : ℕ) {f : Found} {cs' : List Float} → f ≡ found → f ≡ At j → cs' ≡ put_coeff cs j (plus_of (coeff_at cs j) (coeff_at cs i))
+  pub shared_at : (j : ℕ) {f : Option ℕ} {cs' : List Float} → f ≡ found → f ≡ Some j → cs' ≡ put_coeff cs j (plus_of (coeff_at cs j) (coeff_at cs i))
       → SharedRow s i m found m ws ws cs cs'
   shared_at j e q ec =
-      let at : At j ≡ found = sym q ∙ e in
+      let at : Some j ≡ found = sym q ∙ e in
       record { words = ap (shared_words s i m ws) at; coeffs = ec ∙ ap (shared_coeffs i m cs) at; count = ap (shared_count m) at }
 
-  pub shared_new : {f : Found} {ws' : List ℕ} {cs' : List Float} → f ≡ found → f ≡ Nothing
+  pub shared_new : {f : Option ℕ} {ws' : List ℕ} {cs' : List Float} → f ≡ found → f ≡ None
       → (ws' ≡ put_key s ws m (key_at s ws i)) × (cs' ≡ put_coeff cs m (plus_of zero64 (coeff_at cs i))) → SharedRow s i m found (m + 1) ws ws' cs cs'
   shared_new e q r =
-      let at : Nothing ≡ found = sym q ∙ e in
+      let at : None ≡ found = sym q ∙ e in
       record { words = r.0 ∙ ap (shared_words s i m ws) at; coeffs = r.1 ∙ ap (shared_coeffs i m cs) at; count = ap (shared_count m) at }
 
 -- the index of the first m rows, with another row m
-pub index_shared : (w i m buckets : ℕ) (ix ws : List ℕ) {vs : List ℕ} → m ≤ i → i * (2 * w) + 2 * w ≤ length ws → vs ≡ put_key (2 * w) ws m (key_at (2 * w) ws i)
+pub index_shared : (w i m : ℕ) (buckets : Option ℕ) (ix ws : List ℕ) {vs : List ℕ} → m ≤ i → i * (2 * w) + 2 * w ≤ length ws → vs ≡ put_key (2 * w) ws m (key_at (2 * w) ws i)
     → Indexed Same w ws m buckets ix → Indexed Same w vs m buckets ix
 index_shared w i m buckets ix ws {vs} le room e I =
     let before = mul-le-mul_right (2 * w) le in
@@ -211,7 +210,7 @@ index_shared w i m buckets ix ws {vs} le room e I =
 -- ---- the public step
 
 module _ (w n : ℕ) {ws : List ℕ} {cs : List Float} where
-  pub coalesced_none : n ≡ 0 → Stepped w n n n (coalesced (terms_in (2 * w) n ws cs)) 0 ws ws cs cs
+  pub coalesced_none : n ≡ 0 → Stepped w n n n (coalesced (terms_in (2 * w) n ws cs)) n ws ws cs cs
   unfolding tab foldl
   coalesced_none z = rw z (stepped_held w 0 0 (le-leb 0 (rows_in w ws cs) (omega arith)) (omega arith) (hold_start (2 * w) 0 0 ws cs))
 

@@ -47,14 +47,15 @@ pub line_room : (w line : ℕ) (keys : List ℕ) → line < length keys / (2 * w
 line_room w line keys h = row_fits (length keys) w line h
 
 module _ (w row line : ℕ) (keys : List ℕ) (weight : Float) (ws : List ℕ) (cs : List Float) where
-  pub line_row : {ws' : List ℕ} {cs' : List Float} {q : ℕ} {u : Float} → ws' ≡ put_key (2 * w) ws row (key_at (2 * w) keys line)
-      → q ≡ ys_of w (take (line * (2 * w) + 2 * w - line * (2 * w)) (drop (line * (2 * w)) keys)) % 4 → u ≡ cond (ltb 1 (q % 4)) (neg weight) weight → cs' ≡ put_coeff cs row u
+  pub line_row : {ws' : List ℕ} {cs' : List Float} {k : List ℕ} {q : ℕ} {u : Float} → k ≡ key_at (2 * w) keys line → ws' ≡ put_key (2 * w) ws row k
+      → q ≡ ys_of w k % 4 → u ≡ cond (ltb 1 (q % 4)) (neg weight) weight → cs' ≡ put_coeff cs row u
       → (ws' ≡ put_key (2 * w) ws row (term_of w (key_at (2 * w) keys line) weight).key) × (cs' ≡ put_coeff cs row (term_of w (key_at (2 * w) keys line) weight).coeff)
   unfolding term_of
-  line_row {q = q} ew eq eu ec =
-      let size : line * (2 * w) + 2 * w - line * (2 * w) ≡ 2 * w = omega arith in
-      let part : q ≡ ys_of w (key_at (2 * w) keys line) % 4 = eq ∙ ap (λ (n : ℕ). ys_of w (take n (drop (line * (2 * w)) keys)) % 4) size in
-      (ew, ec ∙ ap (put_coeff cs row) (eu ∙ ap (λ (n : ℕ). cond (ltb 1 (n % 4)) (neg weight) weight) part ∙ ap (λ (n : ℕ). cond (ltb 1 n) (neg weight) weight) (mod_mod (ys_of w (key_at (2 * w) keys line)))))
+  line_row {q = q} ek ew eq eu ec =
+      let part : q ≡ ys_of w (key_at (2 * w) keys line) % 4 = eq ∙ ap (λ (k : List ℕ). ys_of w k % 4) ek in (
+        ew ∙ ap (put_key (2 * w) ws row) ek,
+        ec ∙ ap (put_coeff cs row) (eu ∙ ap (λ (n : ℕ). cond (ltb 1 (n % 4)) (neg weight) weight) part ∙ ap (λ (n : ℕ). cond (ltb 1 n) (neg weight) weight) (mod_mod (ys_of w (key_at (2 * w) keys line)))),
+      )
 
 -- ---- a turn of the loop over the lines
 

@@ -8,7 +8,7 @@ use native.Mathlib.Omega.{arith}
 use Rattle.words.specs.Keys.{Key, same_key}
 use Rattle.words.proofs.KeyLaws.{same_key_ne}
 use Rattle.terms.specs.declared.Axis.{Axis}
-use Rattle.terms.specs.declared.Found.TheVariants.{Nothing}
+use Rattle.std.specs.Prelude.{None}
 use Rattle.terms.specs.Rotation.{met_by, partner_by}
 use Rattle.terms.proofs.FirstLaws.{first_ext}
 use Rattle.terms.proofs.AxisLaws.{partner_back}
@@ -19,7 +19,7 @@ use Rattle.branches.proofs.PairLaws.{seek_none, told_same}
 -- row j's key is as it was or, in row i without a partner, turned into the partner's
 abbrev pub Shifted : Axis → ℕ → List ℕ → List ℕ → ℕ → ℕ → ℕ → Type 0
 Shifted x w ws vs n i j = (key_at (2 * w) vs j ≡ key_at (2 * w) ws j)
-    ⊎ ((j ≡ i) × (((met_by x (key_at (2 * w) ws i) ≡ true) × (partner_row w x ws n i ≡ Nothing)) × (key_at (2 * w) vs j ≡ partner_by w x (key_at (2 * w) ws j))))
+    ⊎ ((j ≡ i) × (((met_by x (key_at (2 * w) ws i) ≡ true) × (partner_row w x ws n i ≡ None)) × (key_at (2 * w) vs j ≡ partner_by w x (key_at (2 * w) ws j))))
 
 module _ (x : Axis) (w : ℕ) (ws vs : List ℕ) (n i buckets : ℕ) (ix : List ℕ) (hi : i < n) (T : Table x w ws n i buckets ix)
     (shifted : (j : ℕ) → j < n → Shifted x w ws vs n i j) where
@@ -33,7 +33,7 @@ module _ (x : Axis) (w : ℕ) (ws vs : List ℕ) (n i buckets : ℕ) (ix : List 
   P = partner_by w x
 
   abbrev Lone : Type 0
-  Lone = (met_by x (K i) ≡ true) × (partner_row w x ws n i ≡ Nothing)
+  Lone = (met_by x (K i) ≡ true) × (partner_row w x ws n i ≡ None)
 
   kept : (k : ℕ) → i + 1 ≤ k → k < n → N k ≡ K k
   kept k a h = ⊎_elim (λ (e : N k ≡ K k). e) (λ (e : (k ≡ i) × (Lone × (N k ≡ P (K k)))). absurd (let q = e.0 in omega arith)) (shifted k h)

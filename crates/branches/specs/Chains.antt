@@ -1,8 +1,6 @@
 -- An index of rows by their keys: a number for each bucket, then one for each row. Each is one more than a row, and 0 ends a chain.
-use Rattle.std.specs.Prelude.{◌≡◌, ℕ, zero, suc, ◌+◌, ◌*◌, ◌/◌, ◌%◌, ◌≤◌, ◌<◌, min, true, cond, ◌&&◌, List, [], ◌∷◌, length, get_or, set, eqb}
+use Rattle.std.specs.Prelude.{◌≡◌, ℕ, zero, suc, ◌+◌, ◌*◌, ◌/◌, ◌%◌, ◌≤◌, ◌<◌, min, true, cond, ◌&&◌, List, [], ◌∷◌, length, get_or, set, eqb, Option, Some}
 use Rattle.words.specs.Keys.{Key, same_key}
-use Rattle.terms.specs.declared.Found.{Found}
-use Rattle.terms.specs.declared.Found.TheVariants.{At, Nothing}
 use Rattle.terms.specs.Branch.{first}
 use Rattle.terms.specs.Lists.{tab}
 use Rattle.words.specs.Rows.{key_at}
@@ -62,23 +60,19 @@ pub record Filed (s : Sought) (w : ℕ) (ws : List ℕ) (n buckets : ℕ) (ix : 
   pub filed : (j : ℕ) → j < n → files w s (key_at (2 * w) ws j) ≡ true → links.place j ≡ bucket_of buckets (class_of w s (key_at (2 * w) ws j))
 
 -- ix is an index of the first n rows, if it has buckets at all; all that it holds besides is free
-pub record Indexed (s : Sought) (w : ℕ) (ws : List ℕ) (n buckets : ℕ) (ix : List ℕ) : Type 0 where
-  pub index : 0 < buckets → Filed s w ws n buckets ix
+pub record Indexed (s : Sought) (w : ℕ) (ws : List ℕ) (n : ℕ) (buckets : Option ℕ) (ix : List ℕ) : Type 0 where
+  pub index : (b : ℕ) → buckets ≡ Some b → Filed s w ws n b ix
 
--- so many buckets leave room for n rows
-pub record Spare (n buckets long : ℕ) : Type 0 where
-  pub few : 0 < buckets → buckets < 4294967296
-  pub counted : 0 < buckets → n < 4294967296
-  pub room : 0 < buckets → buckets + n ≤ long
+-- so many buckets, if any, leave room for n rows
+pub record Spare (n : ℕ) (buckets : Option ℕ) (long : ℕ) : Type 0 where
+  pub some : (b : ℕ) → buckets ≡ Some b → 0 < b
+  pub few : (b : ℕ) → buckets ≡ Some b → b < 4294967296
+  pub counted : (b : ℕ) → buckets ≡ Some b → n < 4294967296
+  pub room : (b : ℕ) → buckets ≡ Some b → b + n ≤ long
 
 -- ---- what is found
 
--- 0 for nothing, else one more than the row
-abbrev pub found_of : ℕ → Found
-found_of zero = Nothing
-found_of (suc i) = At i
-
 -- r is the first row of bucket b that has the key looked for from row i
-pub record Walked (s : Sought) (w : ℕ) (ws : List ℕ) (n buckets : ℕ) (ix : List ℕ) (i b r : ℕ) : Type 0 where
+pub record Walked (s : Sought) (w : ℕ) (ws : List ℕ) (n buckets : ℕ) (ix : List ℕ) (i b : ℕ) (r : Option ℕ) : Type 0 where
   pub found : (L : Linked n buckets ix)
-      → found_of r ≡ first (λ j. eqb (L.place j) b && same_key (key_at (2 * w) ws j) (sought_by w s (key_at (2 * w) ws i))) n
+      → r ≡ first (λ j. eqb (L.place j) b && same_key (key_at (2 * w) ws j) (sought_by w s (key_at (2 * w) ws i))) n

@@ -1,9 +1,7 @@
 -- The table of partners of a rotation: an index whose chains have the first row of each pair, and then a number for each row.
-use Rattle.std.specs.Prelude.{◌≡◌, true, List, ℕ, zero, suc, ◌+◌, ◌-◌, ◌*◌, ◌/◌, ◌%◌, ◌≤◌, ◌<◌, length, get_or, set}
+use Rattle.std.specs.Prelude.{◌≡◌, true, List, ℕ, zero, suc, ◌+◌, ◌-◌, ◌*◌, ◌/◌, ◌%◌, ◌≤◌, ◌<◌, length, get_or, set, Option, Some, None}
 use Rattle.words.specs.Keys.{same_key}
 use Rattle.terms.specs.declared.Axis.{Axis}
-use Rattle.terms.specs.declared.Found.{Found}
-use Rattle.terms.specs.declared.Found.TheVariants.{At, Nothing}
 use Rattle.terms.specs.Rotation.{met_by, partner_by, on_key}
 use Rattle.words.specs.Letters.{is_odd}
 use Rattle.terms.specs.Term.{odd_y}
@@ -37,19 +35,19 @@ abbrev pub passed : ℕ → ℕ → ℕ → List ℕ → List ℕ
 passed n i buckets ix = set ix (buckets + n + i) 0
 
 -- the first of m rows that has the key of row k's partner
-abbrev pub partner_row : ℕ → Axis → List ℕ → ℕ → ℕ → Found
+abbrev pub partner_row : ℕ → Axis → List ℕ → ℕ → ℕ → Option ℕ
 partner_row w x ws m k = first (λ j. same_key (key_at (2 * w) ws j) (partner_by w x (key_at (2 * w) ws k))) m
 
 -- a row that is found, not after row k
-abbrev pub NotAfter : ℕ → Found → Type 0
-NotAfter k (At j) = j ≤ k
-NotAfter k Nothing = ⊥
+abbrev pub NotAfter : ℕ → Option ℕ → Type 0
+NotAfter k (Some j) = j ≤ k
+NotAfter k None = ⊥
 
 -- what is said of row k is so, of its partner among the first m rows
 abbrev pub Told : Axis → ℕ → List ℕ → ℕ → ℕ → Mate → Type 0
 Told x w ws m k Done = met_by x (key_at (2 * w) ws k) ≡ true → NotAfter k (partner_row w x ws m k)
-Told x w ws m k Lone = (met_by x (key_at (2 * w) ws k) ≡ true) × (partner_row w x ws m k ≡ Nothing)
-Told x w ws m k (Later j odd) = (met_by x (key_at (2 * w) ws k) ≡ true) × (partner_row w x ws m k ≡ At j) × (k < j) × (is_odd odd ≡ odd_y w (key_at (2 * w) ws k))
+Told x w ws m k Lone = (met_by x (key_at (2 * w) ws k) ≡ true) × (partner_row w x ws m k ≡ None)
+Told x w ws m k (Later j odd) = (met_by x (key_at (2 * w) ws k) ≡ true) × (partner_row w x ws m k ≡ Some j) × (k < j) × (is_odd odd ≡ odd_y w (key_at (2 * w) ws k))
 
 -- The first m of n rows are done: the number of each says its partner, no two that are met have one key, and the first of each pair is in the
 -- bucket of its key.
@@ -58,7 +56,7 @@ pub record Pairing (x : Axis) (w : ℕ) (ws : List ℕ) (n m buckets : ℕ) (ix 
   pub links : Linked m buckets ix
   pub mates : (k : ℕ) → k < m → Told x w ws m k (mate_of (code_at buckets n ix k))
   pub apart : (k l : ℕ) → k < l → l < m → met_by x (key_at (2 * w) ws k) ≡ true → key_at (2 * w) ws k ≡ key_at (2 * w) ws l → ⊥
-  pub filed : (k : ℕ) → k < m → met_by x (key_at (2 * w) ws k) ≡ true → partner_row w x ws k k ≡ Nothing
+  pub filed : (k : ℕ) → k < m → met_by x (key_at (2 * w) ws k) ≡ true → partner_row w x ws k k ≡ None
       → links.place k ≡ bucket_of buckets (class_of w (Partner x) (key_at (2 * w) ws k))
 
 -- the table says the partner of each row from row i on, while the rotation is done in the rows before it
@@ -69,11 +67,12 @@ pub record Table (x : Axis) (w : ℕ) (ws : List ℕ) (n i buckets : ℕ) (ix : 
   pub apart : (k l : ℕ) → i ≤ k → k < l → l < n → met_by x (key_at (2 * w) ws k) ≡ true → key_at (2 * w) ws k ≡ key_at (2 * w) ws l → ⊥
 
 -- there is such a table, if it has buckets at all
-pub record Tabled (x : Axis) (w : ℕ) (ws : List ℕ) (n i buckets : ℕ) (ix : List ℕ) : Type 0 where
-  pub table : 0 < buckets → Table x w ws n i buckets ix
+pub record Tabled (x : Axis) (w : ℕ) (ws : List ℕ) (n i : ℕ) (buckets : Option ℕ) (ix : List ℕ) : Type 0 where
+  pub table : (b : ℕ) → buckets ≡ Some b → Table x w ws n i b ix
 
--- so many buckets leave room for a link and a number for each of n rows
-pub record Roomy (n buckets long : ℕ) : Type 0 where
-  pub few : 0 < buckets → buckets < 4294967296
-  pub counted : 0 < buckets → n < 2147483646
-  pub room : 0 < buckets → buckets + n + n ≤ long
+-- so many buckets, if any, leave room for a link and a number for each of n rows
+pub record Roomy (n : ℕ) (buckets : Option ℕ) (long : ℕ) : Type 0 where
+  pub some : (b : ℕ) → buckets ≡ Some b → 0 < b
+  pub few : (b : ℕ) → buckets ≡ Some b → b < 4294967296
+  pub counted : (b : ℕ) → buckets ≡ Some b → n < 2147483646
+  pub room : (b : ℕ) → buckets ≡ Some b → b + n + n ≤ long

@@ -1,8 +1,6 @@
 -- What the start of a run, from a table of keys and weights, leaves in the two lent buffers.
-use Rattle.std.specs.Prelude.{◌≡◌, ℕ, ◌+◌, ◌*◌, Bool, cond, List, length, get_or, Float}
+use Rattle.std.specs.Prelude.{◌≡◌, ℕ, ◌+◌, ◌*◌, Bool, cond, List, length, get_or, Float, Option, Some, None}
 use Rattle.std.specs.Float.{nan}
-use Rattle.terms.specs.declared.Found.{Found}
-use Rattle.terms.specs.declared.Found.TheVariants.{At, Nothing}
 use Rattle.terms.specs.Lists.{tab}
 use Rattle.terms.specs.Coefficient.{plus_of}
 use Rattle.numbers.specs.Constants.{zero64}
@@ -23,19 +21,19 @@ pub record Started (room : Bool) (w R : ℕ) (ts : List Term) (r : ℕ) (ws ws' 
 
 -- ---- row i merged into the first m rows, by where its key is found there
 
-abbrev pub shared_words : ℕ → ℕ → ℕ → List ℕ → Found → List ℕ
-shared_words s i m ws (At j) = ws
-shared_words s i m ws Nothing = put_key s ws m (key_at s ws i)
+abbrev pub shared_words : ℕ → ℕ → ℕ → List ℕ → Option ℕ → List ℕ
+shared_words s i m ws (Some j) = ws
+shared_words s i m ws None = put_key s ws m (key_at s ws i)
 
-abbrev pub shared_coeffs : ℕ → ℕ → List Float → Found → List Float
-shared_coeffs i m cs (At j) = put_coeff cs j (plus_of (coeff_at cs j) (coeff_at cs i))
-shared_coeffs i m cs Nothing = put_coeff cs m (plus_of zero64 (coeff_at cs i))
+abbrev pub shared_coeffs : ℕ → ℕ → List Float → Option ℕ → List Float
+shared_coeffs i m cs (Some j) = put_coeff cs j (plus_of (coeff_at cs j) (coeff_at cs i))
+shared_coeffs i m cs None = put_coeff cs m (plus_of zero64 (coeff_at cs i))
 
-abbrev pub shared_count : ℕ → Found → ℕ
-shared_count m (At j) = m
-shared_count m Nothing = m + 1
+abbrev pub shared_count : ℕ → Option ℕ → ℕ
+shared_count m (Some j) = m
+shared_count m None = m + 1
 
-pub record SharedRow (s i m : ℕ) (f : Found) (r : ℕ) (ws ws' : List ℕ) (cs cs' : List Float) : Type 0 where
+pub record SharedRow (s i m : ℕ) (f : Option ℕ) (r : ℕ) (ws ws' : List ℕ) (cs cs' : List Float) : Type 0 where
   pub words : ws' ≡ shared_words s i m ws f
   pub coeffs : cs' ≡ shared_coeffs i m cs f
   pub count : r ≡ shared_count m f

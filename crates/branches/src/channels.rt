@@ -1,43 +1,31 @@
 // A noise channel on every term.
-ghost use Rattle.std.specs.Prelude.{◌≡◌, true, false, ◌||◌, map, ◌+◌, ◌*◌, ◌≤◌, ◌<◌, length};
+ghost use Rattle.std.specs.Prelude.{◌≡◌, true, Option, map, ◌+◌, ◌*◌, ◌≤◌, ◌<◌, length};
 ghost use Rattle.words.specs.Keys.{flip_at, z_at, has_letter};
 ghost use Rattle.terms.specs.Channel.{is_zletter, insert, branch, branches_to, with_branches, scaled_letter, scaled_local, scaled_either, channeled};
 ghost use Rattle.terms.specs.Term.{term};
-ghost use Rattle.terms.specs.Met.{acts_on_two, kind_targets};
+ghost use Rattle.terms.specs.Met.{kind_targets};
 ghost use Rattle.branches.specs.Letters.{letter_of};
 ghost use Rattle.branches.specs.declared.Sought.TheVariants.{Identity};
 ghost use Rattle.branches.specs.Chains.{Indexed, Spare};
 ghost use Rattle.words.specs.Rows.{key_at};
 ghost use Rattle.rows.specs.Rows.{term_at, terms_in, met_in, put_coeff, Room, Holds, Grown};
 
-use crate::{Sought, chains, partners};
+use crate::{Sought, chains, partners, probe};
 use rows::letters::{has_targets, met_rows};
 use rows::{Step, row};
-use terms::{Axis, ChannelAction, ChannelKind, Found, number};
+use terms::{Axis, ChannelAction, ChannelKind, number};
 use words::keys::get_bit;
 
-// The index of the letter's multiplier, or nothing for the identity.
-fn pauli_letter(key: &[u64], w: usize, q: usize) -> Found
+// The index of the multiplier of a key's letter, or none for the identity.
+fn pauli_letter(key: &[u64], w: usize, q: usize) -> Option<usize>
     ensures { result ≡ letter_of w q key.now }
 {
-    let x = get_bit(key, 0, q);
-    let z = get_bit(key, w, q);
-    if x {
-        if z { Found::At(1) } else { Found::At(0) }
-    } else {
-        if z { Found::At(2) } else { Found::Nothing }
+    match (get_bit(key, 0, q), get_bit(key, w, q)) {
+        (true, false) => Some(0),
+        (true, true) => Some(1),
+        (false, true) => Some(2),
+        (false, false) => None,
     }
-}
-
-// The letter of row i.
-fn row_letter(words: &[u64], w: usize, i: usize, q: usize) -> Found
-    requires { i * (2 * w) + 2 * w ≤ length words.now }
-    ensures { result ≡ letter_of w q (key_at (2 * w) words.now i) }
-{
-    let size = 2 * w;
-    let base = i * size;
-    let end = base + size;
-    pauli_letter(&words[base..end], w, q)
 }
 
 // Row i times the multiplier of its letter.
@@ -45,12 +33,9 @@ fn scale_letter(words: &[u64], coeffs: &mut [f64], w: usize, i: usize, q: usize,
     requires { (i * (2 * w) + 2 * w ≤ length words.now) × (i < length coeffs.old) }
     ensures { coeffs.new ≡ put_coeff coeffs.old i (scaled_letter w q lambda (term_at (2 * w) words.now coeffs.old i)).coeff }
 {
-    let letter = row_letter(words, w, i, q);
-    let Found::At(l) = letter else {
-        return;
-    };
-    let v = row::value_at(coeffs, i);
-    row::store_value(coeffs, i, number::scaled(v, lambda[l]));
+    if let Some(letter) = pauli_letter(probe::key(words, w, i), w, q) {
+        coeffs[i] = number::scaled(coeffs[i], lambda[letter]);
+    }
 }
 
 fn scale_letters(words: &[u64], coeffs: &mut [f64], w: usize, n: usize, q: usize, lambda: [f64; 3])
@@ -58,23 +43,16 @@ fn scale_letters(words: &[u64], coeffs: &mut [f64], w: usize, n: usize, q: usize
     ensures { Holds (2 * w) n n (map (scaled_letter w q lambda) (terms_in (2 * w) n words.now coeffs.old))
         words.now words.now coeffs.old coeffs.new }
 {
-    let mut i = 0;
-    while i < n {
+    for i in 0..n {
         scale_letter(words, coeffs, w, i, q, lambda);
-        i += 1;
     }
 }
 
-// Whether row i has the letter Z.
-fn row_is_z(words: &[u64], w: usize, i: usize, q: usize) -> bool
-    requires { i * (2 * w) + 2 * w ≤ length words.now }
-    ensures { result ≡ is_zletter w q (key_at (2 * w) words.now i) }
+// Whether a key has the letter Z.
+fn is_z(key: &[u64], w: usize, q: usize) -> bool
+    ensures { result ≡ is_zletter w q key.now }
 {
-    let letter = row_letter(words, w, i, q);
-    let Found::At(l) = letter else {
-        return false;
-    };
-    l == 2
+    pauli_letter(key, w, q) == Some(2)
 }
 
 // Adds d to the row that has row i's word with z flipped at a qubit, or appends that row as row m.
@@ -82,7 +60,7 @@ fn insert_identity(
     words: &mut [u64],
     coeffs: &mut [f64],
     index: &mut [u32],
-    buckets: usize,
+    buckets: Option<usize>,
     w: usize,
     m: usize,
     i: usize,
@@ -96,15 +74,17 @@ fn insert_identity(
         words.old words.new coeffs.old coeffs.new
         × Indexed (Identity q) w words.new result buckets index.new }
 {
-    let found = chains::find(words, w, m, index, buckets, Sought::Identity(q), i);
-    let Found::At(j) = found else {
-        partners::append_partner(words, coeffs, w, m, i, Axis::Z(q), d);
-        chains::push(words, w, m, Sought::Identity(q), index, buckets);
-        return m + 1;
-    };
-    let u = row::value_at(coeffs, j);
-    row::store_value(coeffs, j, number::plus(u, d));
-    m
+    match chains::find(words, w, m, index, buckets, Sought::Identity(q), i) {
+        Some(j) => {
+            coeffs[j] = number::plus(coeffs[j], d);
+            m
+        }
+        None => {
+            partners::append_partner(words, coeffs, w, m, i, Axis::Z(q), d);
+            chains::push(words, w, m, Sought::Identity(q), index, buckets);
+            m + 1
+        }
+    }
 }
 
 // The identity branch of row i: its coefficient times f, if it has the letter Z.
@@ -112,7 +92,7 @@ fn branch_identity(
     words: &mut [u64],
     coeffs: &mut [f64],
     index: &mut [u32],
-    buckets: usize,
+    buckets: Option<usize>,
     w: usize,
     m: usize,
     i: usize,
@@ -126,21 +106,11 @@ fn branch_identity(
         words.old words.new coeffs.old coeffs.new
         × Indexed (Identity q) w words.new result buckets index.new }
 {
-    if row_is_z(words, w, i, q) {
-        let c = row::value_at(coeffs, i);
-        return insert_identity(
-            words,
-            coeffs,
-            index,
-            buckets,
-            w,
-            m,
-            i,
-            q,
-            number::scaled(c, f),
-        );
+    if !is_z(probe::key(words, w, i), w, q) {
+        return m;
     }
-    m
+    let d = number::scaled(coeffs[i], f);
+    insert_identity(words, coeffs, index, buckets, w, m, i, q, d)
 }
 
 // Adds the identity branches of the first n rows, from their old coefficients. The answer is the number of terms.
@@ -148,7 +118,7 @@ fn add_identity_branches(
     words: &mut [u64],
     coeffs: &mut [f64],
     index: &mut [u32],
-    buckets: usize,
+    buckets: Option<usize>,
     w: usize,
     n: usize,
     q: usize,
@@ -160,24 +130,18 @@ fn add_identity_branches(
         words.old words.new coeffs.old coeffs.new }
 {
     let mut m = n;
-    let mut i = 0;
-    while i < n {
+    for i in 0..n {
         m = branch_identity(words, coeffs, index, buckets, w, m, i, q, f);
-        i += 1;
     }
     m
 }
 
-// Whether row i has a letter.
-fn row_has_letter(words: &[u64], w: usize, i: usize, q: usize) -> bool
-    requires { i * (2 * w) + 2 * w ≤ length words.now }
-    ensures { result ≡ has_letter w (key_at (2 * w) words.now i) q }
+// Whether a key has a letter.
+#[tactic(auto, using(crate::proofs::ChannelRows::letter_there))]
+fn has_letter(key: &[u64], w: usize, q: usize) -> bool
+    ensures { result ≡ has_letter w key.now q }
 {
-    let letter = row_letter(words, w, i, q);
-    match letter {
-        Found::At(_) => true,
-        Found::Nothing => false,
-    }
+    pauli_letter(key, w, q).is_some()
 }
 
 // Row i times f, if it has a letter at one of two qubits.
@@ -185,19 +149,10 @@ fn scale_either(words: &[u64], coeffs: &mut [f64], w: usize, i: usize, a: usize,
     requires { (i * (2 * w) + 2 * w ≤ length words.now) × (i < length coeffs.old) }
     ensures { coeffs.new ≡ put_coeff coeffs.old i (scaled_either w a b f (term_at (2 * w) words.now coeffs.old i)).coeff }
 {
-    let first = row_has_letter(words, w, i, a);
-    let second = row_has_letter(words, w, i, b);
-    let met = either(first, second);
-    if met {
-        let v = row::value_at(coeffs, i);
-        row::store_value(coeffs, i, number::scaled(v, f));
+    let key = probe::key(words, w, i);
+    if has_letter(key, w, a) | has_letter(key, w, b) {
+        coeffs[i] = number::scaled(coeffs[i], f);
     }
-}
-
-fn either(p: bool, q: bool) -> bool
-    ensures { result ≡ (p || q) }
-{
-    if p { true } else { q }
 }
 
 fn scale_eithers(words: &[u64], coeffs: &mut [f64], w: usize, n: usize, a: usize, b: usize, f: f64)
@@ -205,10 +160,8 @@ fn scale_eithers(words: &[u64], coeffs: &mut [f64], w: usize, n: usize, a: usize
     ensures { Holds (2 * w) n n (map (scaled_either w a b f) (terms_in (2 * w) n words.now coeffs.old))
         words.now words.now coeffs.old coeffs.new }
 {
-    let mut i = 0;
-    while i < n {
+    for i in 0..n {
         scale_either(words, coeffs, w, i, a, b, f);
-        i += 1;
     }
 }
 
@@ -255,9 +208,7 @@ fn channel_held(
     if row::rows_in(words.len(), coeffs.len(), w) / 2 < n {
         return n;
     }
-    let kind = action.kind;
-    let lambda = action.lambda;
-    match kind {
+    match action.kind {
         ChannelKind::Local => apply_local(
             words,
             coeffs,
@@ -265,23 +216,13 @@ fn channel_held(
             w,
             n,
             a,
-            lambda,
+            action.lambda,
             action.z_to_identity,
         ),
         ChannelKind::Depolarizing2q => {
-            scale_eithers(words, coeffs, w, n, a, b, lambda[0]);
+            scale_eithers(words, coeffs, w, n, a, b, action.lambda[0]);
             n
         }
-    }
-}
-
-// Whether a channel has two targets.
-fn on_two(kind: ChannelKind) -> bool
-    ensures { result ≡ acts_on_two kind }
-{
-    match kind {
-        ChannelKind::Local => false,
-        ChannelKind::Depolarizing2q => true,
     }
 }
 
@@ -302,13 +243,10 @@ pub fn apply_backward_channel(
         × Grown w n (channeled w a b action (terms_in (2 * w) n words.old coeffs.old)) result.count
         words.old words.new coeffs.old coeffs.new) × (length index.new ≡ length index.old) }
 {
-    let kind = action.kind;
-    let two = on_two(kind);
-    let met = met_rows(words, coeffs, w, n, two, a, b);
-    if met == 0 {
-        if has_targets(w, two, a, b) {
-            return Step { count: n, met };
-        }
+    let second = action.kind.acts_on_two().then_some(b);
+    let met = met_rows(words, coeffs, w, n, a, second);
+    if met == 0 && has_targets(w, a, second) {
+        return Step { count: n, met };
     }
     let count = channel_held(words, coeffs, index, w, n, action, a, b);
     Step { count, met }

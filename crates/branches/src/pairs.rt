@@ -8,20 +8,20 @@ ghost use Rattle.words.specs.Rows.{key_at};
 ghost use Rattle.branches.specs.Pairs.{mate_of, joined, begun, passed, Told, Pairing, Tabled, Roomy};
 
 use crate::{Mate, Sought, chains, probe};
-use terms::{Axis, Found};
+use terms::Axis;
 
 // What a number of the table says.
 fn mate(code: usize) -> Mate
     ensures { result ≡ mate_of code }
 {
-    if code == 0 {
-        return Mate::Done;
+    match code {
+        0 => Mate::Done,
+        1 => Mate::Lone,
+        _ => {
+            let rest = code - 2;
+            Mate::Later(rest / 2, rest % 2)
+        }
     }
-    if code == 1 {
-        return Mate::Lone;
-    }
-    let rest = code - 2;
-    Mate::Later(rest / 2, rest % 2)
 }
 
 // Rows j and i become partners, if j has none yet. The pair is done at row j, the earlier. `odd` is the parity of row i, and row j has the other.
@@ -43,8 +43,7 @@ fn begin(index: &mut [u32], buckets: usize, n: usize, i: usize, b: usize)
     ensures { index.new ≡ begun n i buckets b index.old }
 {
     chains::link(i, index, buckets, b);
-    let at = buckets + n + i;
-    index[at] = 1;
+    index[buckets + n + i] = 1;
 }
 
 // Nothing is to be done at row i.
@@ -52,8 +51,7 @@ fn pass(index: &mut [u32], buckets: usize, n: usize, i: usize)
     requires { (i < n) × (buckets + n + n ≤ length index.old) }
     ensures { index.new ≡ passed n i buckets index.old }
 {
-    let at = buckets + n + i;
-    index[at] = 0;
+    index[buckets + n + i] = 0;
 }
 
 // A row that is met: it joins the row of its chain that is its partner, or begins a pair. The answer is false if a row before it has its key.
@@ -71,12 +69,11 @@ fn pair_met(
     ensures { result ≡ true → Pairing axis w words.now n (i + 1) buckets index.new }
 {
     let b = chains::bucket_of(words, w, i, Sought::Partner(axis), buckets);
-    let first = chains::walk(words, w, i, index, buckets, Sought::Partner(axis), i, b);
-    if first != 0 {
-        let odd = probe::row_odd(words, w, i);
-        return join(index, buckets + n, i, first - 1, odd);
+    if let Some(j) = chains::walk(words, w, i, index, buckets, Sought::Partner(axis), i, b) {
+        let odd = probe::key_odd(probe::key(words, w, i), w);
+        return join(index, buckets + n, i, j, odd);
     }
-    if chains::walk(words, w, i, index, buckets, Sought::Same, i, b) != 0 {
+    if chains::walk(words, w, i, index, buckets, Sought::Same, i, b).is_some() {
         return false;
     }
     begin(index, buckets, n, i, b);
@@ -96,7 +93,7 @@ fn pair_row(
         × Pairing axis w words.now n i buckets index.old))) }
     ensures { result ≡ true → Pairing axis w words.now n (i + 1) buckets index.new }
 {
-    if probe::row_met(words, w, i, axis) {
+    if probe::key_met(probe::key(words, w, i), axis) {
         return pair_met(words, w, n, i, axis, index, buckets);
     }
     pass(index, buckets, n, i);
@@ -115,47 +112,42 @@ fn pair_rows(
     requires { (n * (2 * w) ≤ length words.now) × ((n < 2147483646) × ((on_key w axis ≡ true) × Pairing axis w words.now n 0 buckets index.old)) }
     ensures { result ≡ true → Pairing axis w words.now n n buckets index.new }
 {
-    let mut i = 0;
-    while i < n {
+    for i in 0..n {
         if !pair_row(words, w, n, i, axis, index, buckets) {
             return false;
         }
-        i += 1;
     }
     true
 }
 
 // How many buckets a table of so many rows has in so much memory: one more than rows; none if it is too short.
-fn buckets_for(long: usize, n: usize) -> usize
+fn buckets_for(long: usize, n: usize) -> Option<usize>
     ensures { Roomy n result long }
 {
-    if 2000000000 < n {
-        return 0;
+    if 2000000000 < n || long <= 3 * n {
+        return None;
     }
-    if long <= 3 * n {
-        return 0;
-    }
-    n + 1
+    Some(n + 1)
 }
 
-// Makes the table of the first n rows. The answer is the number of its buckets, or 0 if there is no table: the memory is too short, the words
+// Makes the table of the first n rows. The answer is the number of its buckets, or none if there is no table: the memory is too short, the words
 // do not have the targets, or two of the rows that are met have one key.
-pub(crate) fn table(words: &[u64], w: usize, n: usize, axis: Axis, index: &mut [u32]) -> usize
+pub(crate) fn table(
+    words: &[u64],
+    w: usize,
+    n: usize,
+    axis: Axis,
+    index: &mut [u32],
+) -> Option<usize>
     requires { n * (2 * w) ≤ length words.now }
     ensures { Tabled axis w words.now n 0 result index.new }
 {
-    let buckets = buckets_for(index.len(), n);
-    if buckets == 0 {
-        return 0;
-    }
+    let buckets = buckets_for(index.len(), n)?;
     if !probe::on_key(w, axis) {
-        return 0;
+        return None;
     }
-    chains::clear_to(index, buckets);
-    if pair_rows(words, w, n, axis, index, buckets) {
-        return buckets;
-    }
-    0
+    index[..buckets].fill(0);
+    pair_rows(words, w, n, axis, index, buckets).then_some(buckets)
 }
 
 // What is to be done at row i where there is no table: by a scan.
@@ -163,17 +155,15 @@ fn scan_mate(words: &[u64], w: usize, n: usize, axis: Axis, i: usize) -> Mate
     requires { (n * (2 * w) ≤ length words.now) × (i < n) }
     ensures { Told axis w words.now n i result }
 {
-    if !probe::row_met(words, w, i, axis) {
+    let key = probe::key(words, w, i);
+    if !probe::key_met(key, axis) {
         return Mate::Done;
     }
-    let found = probe::scan(words, w, n, Sought::Partner(axis), i);
-    let Found::At(j) = found else {
-        return Mate::Lone;
-    };
-    if j <= i {
-        return Mate::Done;
+    match probe::scan(words, w, n, Sought::Partner(axis), i) {
+        None => Mate::Lone,
+        Some(j) if j <= i => Mate::Done,
+        Some(j) => Mate::Later(j, probe::key_odd(key, w)),
     }
-    Mate::Later(j, probe::row_odd(words, w, i))
 }
 
 // What is to be done at row i, by the table, or by a scan if there is none. A row's partner is the first below n that is one.
@@ -182,16 +172,15 @@ pub(crate) fn find(
     w: usize,
     n: usize,
     index: &[u32],
-    buckets: usize,
+    buckets: Option<usize>,
     axis: Axis,
     i: usize,
 ) -> Mate
     requires { (n * (2 * w) ≤ length words.now) × ((i < n) × Tabled axis w words.now n i buckets index.now) }
     ensures { Told axis w words.now n i result }
 {
-    if buckets == 0 {
-        return scan_mate(words, w, n, axis, i);
+    match buckets {
+        None => scan_mate(words, w, n, axis, i),
+        Some(buckets) => mate(index[buckets + n + i] as usize),
     }
-    let at = buckets + n + i;
-    mate(chains::wide(index[at]))
 }

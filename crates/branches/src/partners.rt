@@ -26,10 +26,8 @@ pub(crate) fn flip_row(words: &mut [u64], w: usize, i: usize, axis: Axis)
     requires { i * (2 * w) + 2 * w ≤ length words.old }
     ensures { words.new ≡ put_key (2 * w) words.old i (partner_by w axis (key_at (2 * w) words.old i)) }
 {
-    let size = 2 * w;
-    let base = i * size;
-    let end = base + size;
-    flip_key(&mut words[base..end], w, axis);
+    let base = i * (2 * w);
+    flip_key(&mut words[base..base + 2 * w], w, axis);
 }
 
 // Row m becomes the partner of row i, with a coefficient.
@@ -48,5 +46,5 @@ pub(crate) fn append_partner(
 {
     row::copy_row(words, 2 * w, i, m);
     flip_row(words, w, m, axis);
-    row::store_value(coeffs, m, c);
+    coeffs[m] = c;
 }

@@ -5,17 +5,27 @@ ghost use Rattle.terms.specs.Rotation.{met_by, on_key};
 ghost use Rattle.terms.specs.Branch.{first};
 ghost use Rattle.words.specs.Letters.{is_odd};
 ghost use Rattle.terms.specs.Term.{odd_y};
-ghost use Rattle.terms.specs.declared.Axis.TheVariants.{Zz};
 ghost use Rattle.words.specs.Rows.{key_at};
 ghost use Rattle.branches.specs.Probe.{sought_by, files, flipped_word, partner_word, sought_word};
 
 use crate::Sought;
-use terms::{Axis, Found};
+use terms::Axis;
 use words::keys::get_bit;
 use words::letters::y_parity;
 
+// The key of row i, a part of the buffer.
+#[tactic(auto, using(crate::proofs::ProbeLaws::part_key))]
+pub(crate) fn key(words: &[u64], w: usize, i: usize) -> &[u64]
+    requires { i * (2 * w) + 2 * w ≤ length words.now }
+    ensures { result.now ≡ key_at (2 * w) words.now i }
+{
+    let base = i * (2 * w);
+    &words[base..base + 2 * w]
+}
+
 // Whether a rotation meets a key.
-fn key_met(key: &[u64], axis: Axis) -> bool
+#[tactic(auto, using(crate::proofs::ProbeLaws::met_one, crate::proofs::ProbeLaws::met_two))]
+pub(crate) fn key_met(key: &[u64], axis: Axis) -> bool
     ensures { result ≡ met_by axis key.now }
 {
     match axis {
@@ -24,84 +34,47 @@ fn key_met(key: &[u64], axis: Axis) -> bool
     }
 }
 
-// Whether a rotation meets row i.
-pub(crate) fn row_met(words: &[u64], w: usize, i: usize, axis: Axis) -> bool
-    requires { i * (2 * w) + 2 * w ≤ length words.now }
-    ensures { result ≡ met_by axis (key_at (2 * w) words.now i) }
+// 1 where the Y letters of a key are odd in number, else 0.
+#[tactic(auto, using(terms::proofs::YLaws::odd_same))]
+pub(crate) fn key_odd(key: &[u64], w: usize) -> usize
+    ensures { (is_odd result ≡ odd_y w key.now) × (result < 2) }
 {
-    let size = 2 * w;
-    let base = i * size;
-    let end = base + size;
-    key_met(&words[base..end], axis)
+    y_parity(key, w)
 }
 
-// 1 where the Y letters of row i are odd in number, else 0.
-pub(crate) fn row_odd(words: &[u64], w: usize, i: usize) -> usize
-    requires { i * (2 * w) + 2 * w ≤ length words.now }
-    ensures { (is_odd result ≡ odd_y w (key_at (2 * w) words.now i)) × (result < 2) }
-{
-    let size = 2 * w;
-    let base = i * size;
-    let end = base + size;
-    y_parity(&words[base..end], w)
-}
-
-// Whether the words have both of two qubits, and these are distinct.
-fn on_both(w: usize, a: usize, b: usize) -> bool
-    ensures { result ≡ on_key w (Zz a b) }
-{
-    if w <= a / 64 {
-        return false;
-    }
-    if w <= b / 64 {
-        return false;
-    }
-    a != b
-}
-
+// Whether the words have the targets, and two of them are distinct.
+#[tactic(auto, using(crate::proofs::ProbeLaws::on_one))]
 pub(crate) fn on_key(w: usize, axis: Axis) -> bool
     ensures { result ≡ on_key w axis }
 {
     match axis {
         Axis::Z(q) => q / 64 < w,
-        Axis::Zz(a, b) => on_both(w, a, b),
+        Axis::Zz(a, b) => a / 64 < w && b / 64 < w && a != b,
     }
 }
 
-fn key_files(key: &[u64], w: usize, sought: Sought) -> bool
+// Whether the index has a key.
+pub(crate) fn key_files(key: &[u64], w: usize, sought: Sought) -> bool
     ensures { result ≡ files w sought key.now }
 {
     match sought {
-        Sought::Same => true,
-        Sought::Partner(_) => true,
+        Sought::Same | Sought::Partner(_) => true,
         Sought::Identity(q) => !get_bit(key, w, q),
     }
 }
 
-// Whether the index has row i.
-pub(crate) fn row_files(words: &[u64], w: usize, i: usize, sought: Sought) -> bool
-    requires { i * (2 * w) + 2 * w ≤ length words.now }
-    ensures { result ≡ files w sought (key_at (2 * w) words.now i) }
-{
-    let size = 2 * w;
-    let base = i * size;
-    let end = base + size;
-    key_files(&words[base..end], w, sought)
-}
-
 // Word k of a key, v, after z of qubit q is flipped.
+#[tactic(auto, using(crate::proofs::ProbeLaws::flipped_before, crate::proofs::ProbeLaws::flipped_other, crate::proofs::ProbeLaws::flipped_here))]
 fn flipped_word(v: u64, k: usize, w: usize, q: usize) -> u64
     ensures { result ≡ flipped_word w q k v }
 {
-    if k < w {
-        return v;
-    }
-    if k - w != q / 64 {
+    if k < w || k - w != q / 64 {
         return v;
     }
     v ^ (1u64 << (q % 64))
 }
 
+#[tactic(auto, unfolding(crate::specs::Probe::partner_word))]
 fn partner_word(v: u64, k: usize, w: usize, axis: Axis) -> u64
     ensures { result ≡ partner_word w axis k v }
 {
@@ -112,6 +85,7 @@ fn partner_word(v: u64, k: usize, w: usize, axis: Axis) -> u64
 }
 
 // Word k of the key looked for from a row whose word k is v. The x-words are the row's own.
+#[tactic(auto, using(crate::proofs::ProbeLaws::sought_before), unfolding(crate::specs::Probe::sought_word))]
 pub(crate) fn sought_word(v: u64, k: usize, w: usize, sought: Sought) -> u64
     ensures { result ≡ sought_word w sought k v }
 {
@@ -126,35 +100,30 @@ pub(crate) fn sought_word(v: u64, k: usize, w: usize, sought: Sought) -> u64
 }
 
 // Whether the key of row j is that looked for from row i.
+#[tactic(auto, using(crate::proofs::ProbeLaws::probe_differs, crate::proofs::ProbeLaws::probe_same))]
 pub(crate) fn is_sought(words: &[u64], w: usize, i: usize, j: usize, sought: Sought) -> bool
     requires { (i * (2 * w) + 2 * w ≤ length words.now) × (j * (2 * w) + 2 * w ≤ length words.now) }
     ensures { result ≡ same_key (key_at (2 * w) words.now j) (sought_by w sought (key_at (2 * w) words.now i)) }
 {
-    let size = 2 * w;
-    let a = i * size;
-    let b = j * size;
-    let mut k = 0;
-    while k < size {
-        let v = words[a + k];
-        if words[b + k] != sought_word(v, k, w, sought) {
+    let own = i * (2 * w);
+    let other = j * (2 * w);
+    for k in 0..2 * w {
+        if words[other + k] != sought_word(words[own + k], k, w, sought) {
             return false;
         }
-        k += 1;
     }
     true
 }
 
 // The first row below n that has the key looked for from row i, by a look at each.
-pub(crate) fn scan(words: &[u64], w: usize, n: usize, sought: Sought, i: usize) -> Found
+pub(crate) fn scan(words: &[u64], w: usize, n: usize, sought: Sought, i: usize) -> Option<usize>
     requires { (n * (2 * w) ≤ length words.now) × (i * (2 * w) + 2 * w ≤ length words.now) }
     ensures { result ≡ first (λ j. same_key (key_at (2 * w) words.now j) (sought_by w sought (key_at (2 * w) words.now i))) n }
 {
-    let mut j = 0;
-    while j < n {
+    for j in 0..n {
         if is_sought(words, w, i, j, sought) {
-            return Found::At(j);
+            return Some(j);
         }
-        j += 1;
     }
-    Found::Nothing
+    None
 }

@@ -1,61 +1,58 @@
 // A Pauli rotation on every term: t, tdg, rz, p and rzz.
-ghost use Rattle.std.specs.Prelude.{◌≡◌, not, [], ◌∷◌, map, ◌+◌, ◌*◌, ◌≤◌, ◌<◌, length};
+ghost use Rattle.std.specs.Prelude.{◌≡◌, Option, not, map, ◌+◌, ◌*◌, ◌≤◌, ◌<◌, length};
 ghost use Rattle.words.specs.Letters.{is_odd};
-ghost use Rattle.terms.specs.Rotation.{met_by, partner_by, scaled_met, mixed};
-ghost use Rattle.terms.specs.Branch.{branch_lone, branch_row, branch_to};
-ghost use Rattle.terms.specs.declared.Axis.TheVariants.{Z, Zz};
+ghost use Rattle.terms.specs.Rotation.{mixed};
+ghost use Rattle.terms.specs.Met.{targets, axis_targets};
 ghost use Rattle.rows.specs.Rows.{coeff_at, term_at, terms_in, met_in, put_coeff, Room, Holds};
 ghost use Rattle.branches.specs.Pairs.{Tabled};
-ghost use Rattle.branches.specs.Rotated.{Rotated};
+ghost use Rattle.branches.specs.Rotated.{Rotated, scaled_by, lone_by, row_by, rows_by};
 
 use crate::{Mate, pairs, partners, probe};
 use rows::letters::{has_targets, met_rows};
 use rows::{Step, row};
 use terms::{Axis, number};
 
+// A rotation about the Paulis of its targets, with the sine and the cosine of its angle.
+#[derive(Clone, Copy)]
+pub struct Rotation {
+    pub axis: Axis,
+    pub sin: f64,
+    pub cos: f64,
+}
+
 // Row i times the cosine, if it is met.
-fn scale_row(words: &[u64], coeffs: &mut [f64], w: usize, i: usize, axis: Axis, sin: f64, cos: f64)
+fn scale_row(words: &[u64], coeffs: &mut [f64], w: usize, i: usize, rotation: Rotation)
     requires { (i * (2 * w) + 2 * w ≤ length words.now) × (i < length coeffs.old) }
-    ensures { coeffs.new ≡ put_coeff coeffs.old i (scaled_met w (met_by axis) (partner_by w axis) sin cos (term_at (2 * w) words.now coeffs.old i)).coeff }
+    ensures { coeffs.new ≡ put_coeff coeffs.old i (scaled_by w rotation (term_at (2 * w) words.now coeffs.old i)).coeff }
 {
-    if probe::row_met(words, w, i, axis) {
-        let v = row::value_at(coeffs, i);
-        row::store_value(coeffs, i, number::scaled(v, cos));
+    if probe::key_met(probe::key(words, w, i), rotation.axis) {
+        coeffs[i] = number::scaled(coeffs[i], rotation.cos);
     }
 }
 
-fn scale_rows(words: &[u64], coeffs: &mut [f64], w: usize, n: usize, axis: Axis, sin: f64, cos: f64)
+fn scale_rows(words: &[u64], coeffs: &mut [f64], w: usize, n: usize, rotation: Rotation)
     requires { Room (2 * w) n words.now coeffs.old }
-    ensures { Holds (2 * w) n n (map (scaled_met w (met_by axis) (partner_by w axis) sin cos) (terms_in (2 * w) n words.now coeffs.old))
+    ensures { Holds (2 * w) n n (map (scaled_by w rotation) (terms_in (2 * w) n words.now coeffs.old))
         words.now words.now coeffs.old coeffs.new }
 {
-    let mut i = 0;
-    while i < n {
-        scale_row(words, coeffs, w, i, axis, sin, cos);
-        i += 1;
+    for i in 0..n {
+        scale_row(words, coeffs, w, i, rotation);
     }
 }
 
 // Two rows that are each other's partners, each from the old values; the Y letters of row i are odd in number if `odd` is odd, those of row j if
 // it is not.
-fn pair_rows(coeffs: &mut [f64], i: usize, j: usize, odd: usize, sin: f64, cos: f64)
+fn pair_rows(coeffs: &mut [f64], i: usize, j: usize, odd: usize, rotation: Rotation)
     requires { (i < length coeffs.old) × (j < length coeffs.old) }
     ensures { coeffs.new ≡ put_coeff
-        (put_coeff coeffs.old i (mixed (is_odd odd) sin cos (coeff_at coeffs.old i) (coeff_at coeffs.old j)))
-        j (mixed (not (is_odd odd)) sin cos (coeff_at coeffs.old j) (coeff_at coeffs.old i)) }
+        (put_coeff coeffs.old i (mixed (is_odd odd) rotation.sin rotation.cos (coeff_at coeffs.old i) (coeff_at coeffs.old j)))
+        j (mixed (not (is_odd odd)) rotation.sin rotation.cos (coeff_at coeffs.old j) (coeff_at coeffs.old i)) }
 {
-    let a = row::value_at(coeffs, i);
-    let b = row::value_at(coeffs, j);
-    row::store_value(
-        coeffs,
-        i,
-        number::plus(number::scaled(a, cos), number::flipped(b, odd % 2 + 1, sin)),
-    );
-    row::store_value(
-        coeffs,
-        j,
-        number::plus(number::scaled(b, cos), number::flipped(a, odd, sin)),
-    );
+    let Rotation { sin, cos, .. } = rotation;
+    let a = coeffs[i];
+    let b = coeffs[j];
+    coeffs[i] = number::plus(number::scaled(a, cos), number::flipped(b, odd % 2 + 1, sin));
+    coeffs[j] = number::plus(number::scaled(b, cos), number::flipped(a, odd, sin));
 }
 
 // Row i without a partner: rewritten where the cosine is 0, else scaled, with its partner's word appended as row m.
@@ -65,24 +62,22 @@ fn lone_row(
     w: usize,
     m: usize,
     i: usize,
-    axis: Axis,
-    sin: f64,
-    cos: f64,
+    rotation: Rotation,
 ) -> usize
     requires { (i < m) × Room (2 * w) (m + 1) words.old coeffs.old }
-    ensures { (m ≤ result) × (result ≤ m + 1) × Holds (2 * w) result result (branch_lone w (met_by axis) (partner_by w axis) sin cos i (terms_in (2 * w) m words.old coeffs.old))
+    ensures { (m ≤ result) × (result ≤ m + 1) × Holds (2 * w) result result (lone_by w rotation i (terms_in (2 * w) m words.old coeffs.old))
         words.old words.new coeffs.old coeffs.new }
 {
-    let c = row::value_at(coeffs, i);
-    let odd = probe::row_odd(words, w, i);
-    let turned = number::flipped(c, odd, sin);
-    if cos == 0.0 {
-        partners::flip_row(words, w, i, axis);
-        row::store_value(coeffs, i, turned);
+    let c = coeffs[i];
+    let odd = probe::key_odd(probe::key(words, w, i), w);
+    let turned = number::flipped(c, odd, rotation.sin);
+    if rotation.cos == 0.0 {
+        partners::flip_row(words, w, i, rotation.axis);
+        coeffs[i] = turned;
         return m;
     }
-    row::store_value(coeffs, i, number::scaled(c, cos));
-    partners::append_partner(words, coeffs, w, m, i, axis, turned);
+    coeffs[i] = number::scaled(c, rotation.cos);
+    partners::append_partner(words, coeffs, w, m, i, rotation.axis, turned);
     m + 1
 }
 
@@ -90,26 +85,23 @@ fn branch_row(
     words: &mut [u64],
     coeffs: &mut [f64],
     index: &[u32],
-    buckets: usize,
+    buckets: Option<usize>,
     w: usize,
     n: usize,
     m: usize,
     i: usize,
-    axis: Axis,
-    sin: f64,
-    cos: f64,
+    rotation: Rotation,
 ) -> usize
     requires { (i < n) × (n ≤ m) × Room (2 * w) (m + 1) words.old coeffs.old
-        × Tabled axis w words.old n i buckets index.now }
-    ensures { (m ≤ result) × (result ≤ m + 1) × Holds (2 * w) result result (branch_row w (met_by axis) (partner_by w axis) sin cos n i (terms_in (2 * w) m words.old coeffs.old))
+        × Tabled rotation.axis w words.old n i buckets index.now }
+    ensures { (m ≤ result) × (result ≤ m + 1) × Holds (2 * w) result result (row_by w rotation n i (terms_in (2 * w) m words.old coeffs.old))
         words.old words.new coeffs.old coeffs.new }
 {
-    let mate = pairs::find(words, w, n, index, buckets, axis, i);
-    match mate {
+    match pairs::find(words, w, n, index, buckets, rotation.axis, i) {
         Mate::Done => m,
-        Mate::Lone => lone_row(words, coeffs, w, m, i, axis, sin, cos),
+        Mate::Lone => lone_row(words, coeffs, w, m, i, rotation),
         Mate::Later(j, odd) => {
-            pair_rows(coeffs, i, j, odd, sin, cos);
+            pair_rows(coeffs, i, j, odd, rotation);
             m
         }
     }
@@ -119,22 +111,18 @@ fn branch_rows(
     words: &mut [u64],
     coeffs: &mut [f64],
     index: &[u32],
-    buckets: usize,
+    buckets: Option<usize>,
     w: usize,
     n: usize,
-    axis: Axis,
-    sin: f64,
-    cos: f64,
+    rotation: Rotation,
 ) -> usize
-    requires { Room (2 * w) (2 * n) words.old coeffs.old × Tabled axis w words.old n 0 buckets index.now }
-    ensures { (result ≤ 2 * n) × Holds (2 * w) result result (branch_to w (met_by axis) (partner_by w axis) sin cos n n (terms_in (2 * w) n words.old coeffs.old))
+    requires { Room (2 * w) (2 * n) words.old coeffs.old × Tabled rotation.axis w words.old n 0 buckets index.now }
+    ensures { (result ≤ 2 * n) × Holds (2 * w) result result (rows_by w rotation n n (terms_in (2 * w) n words.old coeffs.old))
         words.old words.new coeffs.old coeffs.new }
 {
     let mut m = n;
-    let mut i = 0;
-    while i < n {
-        m = branch_row(words, coeffs, index, buckets, w, n, m, i, axis, sin, cos);
-        i += 1;
+    for i in 0..n {
+        m = branch_row(words, coeffs, index, buckets, w, n, m, i, rotation);
     }
     m
 }
@@ -145,70 +133,50 @@ fn branch(
     index: &mut [u32],
     w: usize,
     n: usize,
-    axis: Axis,
-    sin: f64,
-    cos: f64,
+    rotation: Rotation,
 ) -> usize
-    ensures { Rotated w n axis sin cos result words.old words.new coeffs.old coeffs.new }
+    ensures { Rotated w n rotation.axis rotation.sin rotation.cos result words.old words.new coeffs.old coeffs.new }
 {
     if row::rows_in(words.len(), coeffs.len(), w) / 2 < n {
         return n;
     }
-    if sin == 0.0 {
-        scale_rows(words, coeffs, w, n, axis, sin, cos);
+    if rotation.sin == 0.0 {
+        scale_rows(words, coeffs, w, n, rotation);
         return n;
     }
-    let buckets = pairs::table(words, w, n, axis, index);
-    branch_rows(words, coeffs, index, buckets, w, n, axis, sin, cos)
+    let buckets = pairs::table(words, w, n, rotation.axis, index);
+    branch_rows(words, coeffs, index, buckets, w, n, rotation)
 }
 
-// A rotation about Z at one qubit: t, tdg, rz and p. The answer is the number of terms, where there are 2 * n rows, else nothing changes; and how
-// many of the first n had a letter at the qubit. Where none had, nothing changes and no row is touched. What the memory of the index then holds
-// is free, but for its length.
-pub fn branch_z_rotation(
+// The targets of a rotation: one, and a second where there is one.
+fn targets_of(axis: Axis) -> (usize, Option<usize>)
+    ensures { targets result.0 result.1 ≡ axis_targets axis }
+{
+    match axis {
+        Axis::Z(q) => (q, None),
+        Axis::Zz(a, b) => (a, Some(b)),
+    }
+}
+
+// A rotation: t, tdg, rz and p about Z at one qubit, rzz about ZZ at two. The answer is the number of terms, where there are 2 * n rows, else nothing
+// changes; and how many of the first n had a letter on at least one target. Where none had, nothing changes and no row is touched. What the memory of
+// the index then holds is free, but for its length.
+pub fn branch_rotation(
     words: &mut [u64],
     coeffs: &mut [f64],
     index: &mut [u32],
     w: usize,
     n: usize,
-    qubit: usize,
-    sin: f64,
-    cos: f64,
+    rotation: Rotation,
 ) -> Step
-    ensures { ((result.met ≡ met_in w (qubit ∷ []) n words.old coeffs.old)
-        × Rotated w n (Z qubit) sin cos result.count words.old words.new coeffs.old coeffs.new) × (length index.new ≡ length index.old) }
+    ensures { ((result.met ≡ met_in w (axis_targets rotation.axis) n words.old coeffs.old)
+        × Rotated w n rotation.axis rotation.sin rotation.cos result.count words.old words.new coeffs.old coeffs.new) × (length index.new ≡ length index.old) }
 {
-    let met = met_rows(words, coeffs, w, n, false, qubit, 0);
-    if met == 0 {
-        if has_targets(w, false, qubit, 0) {
-            return Step { count: n, met };
-        }
+    let (a, second) = targets_of(rotation.axis);
+    let met = met_rows(words, coeffs, w, n, a, second);
+    if met == 0 && has_targets(w, a, second) {
+        return Step { count: n, met };
     }
-    let count = branch(words, coeffs, index, w, n, Axis::Z(qubit), sin, cos);
-    Step { count, met }
-}
-
-// A rotation about ZZ at two qubits: rzz. The answer likewise. What the memory of the index then holds is free, but for its length.
-pub fn branch_zz_rotation(
-    words: &mut [u64],
-    coeffs: &mut [f64],
-    index: &mut [u32],
-    w: usize,
-    n: usize,
-    a: usize,
-    b: usize,
-    sin: f64,
-    cos: f64,
-) -> Step
-    ensures { ((result.met ≡ met_in w (a ∷ b ∷ []) n words.old coeffs.old)
-        × Rotated w n (Zz a b) sin cos result.count words.old words.new coeffs.old coeffs.new) × (length index.new ≡ length index.old) }
-{
-    let met = met_rows(words, coeffs, w, n, true, a, b);
-    if met == 0 {
-        if has_targets(w, true, a, b) {
-            return Step { count: n, met };
-        }
-    }
-    let count = branch(words, coeffs, index, w, n, Axis::Zz(a, b), sin, cos);
+    let count = branch(words, coeffs, index, w, n, rotation);
     Step { count, met }
 }

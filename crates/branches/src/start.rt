@@ -12,10 +12,10 @@ ghost use Rattle.branches.specs.declared.Sought.TheVariants.{Same};
 ghost use Rattle.branches.specs.Chains.{Indexed, Spare};
 ghost use Rattle.branches.specs.Started.{SharedRow, Started, lines_of};
 
-use crate::{Sought, chains};
+use crate::{Sought, chains, probe};
 use rows::clear::clear_rows;
 use rows::row;
-use terms::{Found, number};
+use terms::number;
 use words::letters::y_quarters;
 use words::rows::rows_of;
 
@@ -24,20 +24,6 @@ fn signed(quarters: u8, weight: f64) -> f64
     ensures { result ≡ cond (ltb 1 (quarters % 4)) (neg weight) weight }
 {
     if 1 < quarters % 4 { -weight } else { weight }
-}
-
-// The key of a line, copied to a row.
-fn copy_line(words: &mut [u64], size: usize, row: usize, keys: &[u64], line: usize)
-    requires { (row * size + size ≤ length words.old) × (line * size + size ≤ length keys.now) }
-    ensures { words.new ≡ put_key size words.old row (key_at size keys.now line) }
-{
-    let a = line * size;
-    let b = row * size;
-    let mut k = 0;
-    while k < size {
-        words[b + k] = keys[a + k];
-        k += 1;
-    }
 }
 
 // A row becomes the term of a line, with a weight.
@@ -54,12 +40,10 @@ fn start_row(
     ensures { (words.new ≡ put_key (2 * w) words.old row (term_of w (key_at (2 * w) keys.now line) weight).key)
         × (coeffs.new ≡ put_coeff coeffs.old row (term_of w (key_at (2 * w) keys.now line) weight).coeff) }
 {
-    let size = 2 * w;
-    let a = line * size;
-    let e = a + size;
-    copy_line(words, size, row, keys, line);
-    let quarters = y_quarters(&keys[a..e], w);
-    row::store_value(coeffs, row, signed(quarters, weight));
+    let key = probe::key(keys, w, line);
+    let base = row * (2 * w);
+    words[base..base + 2 * w].copy_from_slice(key);
+    coeffs[row] = signed(y_quarters(key, w), weight);
 }
 
 fn start_rows(
@@ -74,11 +58,8 @@ fn start_rows(
     ensures { Holds (2 * w) lines lines (lines_of w keys.now weights.now lines)
         words.old words.new coeffs.old coeffs.new }
 {
-    let mut l = 0;
-    while l < lines {
-        let weight = weights[l];
-        start_row(words, coeffs, w, l, keys, l, weight);
-        l += 1;
+    for l in 0..lines {
+        start_row(words, coeffs, w, l, keys, l, weights[l]);
     }
 }
 
@@ -96,10 +77,7 @@ pub fn single_term(
         w 1 (term_of w (key_at (2 * w) keys.now line) weight ∷ []) result
         words.old words.new coeffs.old coeffs.new }
 {
-    if row::rows_in(words.len(), coeffs.len(), w) < 1 {
-        return 0;
-    }
-    if rows_of(keys.len(), w) <= line {
+    if row::rows_in(words.len(), coeffs.len(), w) < 1 || rows_of(keys.len(), w) <= line {
         return 0;
     }
     start_row(words, coeffs, w, 0, keys, line, weight);
@@ -112,18 +90,15 @@ fn new_row(words: &mut [u64], coeffs: &mut [f64], size: usize, i: usize, m: usiz
     ensures { (words.new ≡ put_key size words.old m (key_at size words.old i))
         × (coeffs.new ≡ put_coeff coeffs.old m (plus_of zero64 (coeff_at coeffs.old i))) }
 {
-    let v = row::value_at(coeffs, i);
     row::copy_row(words, size, i, m);
-    row::store_value(coeffs, m, number::plus(0.0, v));
+    coeffs[m] = number::plus(0.0, coeffs[i]);
 }
 
 fn add_row(coeffs: &mut [f64], i: usize, j: usize)
     requires { (i < length coeffs.old) × (j < length coeffs.old) }
     ensures { coeffs.new ≡ put_coeff coeffs.old j (plus_of (coeff_at coeffs.old j) (coeff_at coeffs.old i)) }
 {
-    let v = row::value_at(coeffs, i);
-    let u = row::value_at(coeffs, j);
-    row::store_value(coeffs, j, number::plus(u, v));
+    coeffs[j] = number::plus(coeffs[j], coeffs[i]);
 }
 
 // Row i, added to that of the first m rows that has its key, or as row m, which then goes into the index. The answer is how many rows
@@ -132,7 +107,7 @@ fn share_row(
     words: &mut [u64],
     coeffs: &mut [f64],
     index: &mut [u32],
-    buckets: usize,
+    buckets: Option<usize>,
     w: usize,
     i: usize,
     m: usize,
@@ -143,13 +118,12 @@ fn share_row(
         words.old words.new coeffs.old coeffs.new
         × Indexed Same w words.new result buckets index.new }
 {
-    let found = chains::find(words, w, m, index, buckets, Sought::Same, i);
-    match found {
-        Found::At(j) => {
+    match chains::find(words, w, m, index, buckets, Sought::Same, i) {
+        Some(j) => {
             add_row(coeffs, i, j);
             m
         }
-        Found::Nothing => {
+        None => {
             new_row(words, coeffs, 2 * w, i, m);
             chains::push(words, w, m, Sought::Same, index, buckets);
             m + 1
@@ -161,7 +135,7 @@ fn share_rows(
     words: &mut [u64],
     coeffs: &mut [f64],
     index: &mut [u32],
-    buckets: usize,
+    buckets: Option<usize>,
     w: usize,
     n: usize,
 ) -> usize
@@ -170,10 +144,8 @@ fn share_rows(
         words.old words.new coeffs.old coeffs.new × (result ≤ n) }
 {
     let mut m = 0;
-    let mut i = 0;
-    while i < n {
+    for i in 0..n {
         m = share_row(words, coeffs, index, buckets, w, i, m);
-        i += 1;
     }
     m
 }
@@ -190,10 +162,7 @@ pub fn coalesce(
     ensures { Stepped w n n n (coalesced (terms_in (2 * w) n words.old coeffs.old)) result
         words.old words.new coeffs.old coeffs.new × (length index.new ≡ length index.old) }
 {
-    if n == 0 {
-        return 0;
-    }
-    if row::rows_in(words.len(), coeffs.len(), w) < n {
+    if n == 0 || row::rows_in(words.len(), coeffs.len(), w) < n {
         return n;
     }
     let buckets = chains::build(words, w, 0, n, Sought::Same, index);
@@ -218,13 +187,10 @@ pub fn weighted_sum(
         w lines (merged (lines_of w keys.now weights.now lines)) result
         words.old words.new coeffs.old coeffs.new × (length index.new ≡ length index.old) }
 {
-    if row::rows_in(words.len(), coeffs.len(), w) < lines {
-        return 0;
-    }
-    if rows_of(keys.len(), w) < lines {
-        return 0;
-    }
-    if weights.len() < lines {
+    if row::rows_in(words.len(), coeffs.len(), w) < lines
+        || rows_of(keys.len(), w) < lines
+        || weights.len() < lines
+    {
         return 0;
     }
     start_rows(words, coeffs, w, keys, weights, lines);

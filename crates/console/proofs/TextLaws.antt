@@ -3,14 +3,13 @@ use Rattle.std.proofs.Common.{◌≡◌, ℕ, ◌≤◌, ◌<◌, List, length, 
 use mathlib.Core.Logic.{⊎_elim}
 use Rattle.std.proofs.lemmas.List.{length-take-le, take_all}
 use Rattle.std.specs.declared.option.Option.{Option}
-use Rattle.std.specs.Prelude.{None, Some}
+use Rattle.std.specs.Prelude.{None, Some, Ok}
 use Rattle.input.specs.Pieces.{HoldsFront}
-use Rattle.input.specs.declared.reading.Input.TheVariants as input
 use Rattle.replies.specs.Written.{Printing}
 use Rattle.sheet.specs.Screen.{bench}
 use Rattle.console.specs.Told.{Shown}
 use Rattle.console.specs.Delivery.{Fed, IsInput, LosesFront}
-use Rattle.console.specs.declared.Told.TheVariants.{Text}
+use Rattle.console.specs.declared.Told.{Told}
 use Rattle.terms.proofs.CaseLaws.{lt_or_le}
 use Rattle.sheet.proofs.LengthLaws.{bench_fits, whole_text}
 use Rattle.sheet.proofs.ScreenLaws.{bench_long}
@@ -34,17 +33,19 @@ bench_cut s =
     (λ (h : 65537 ≤ length s). sym (bench_long (take 65537 s) (omega (arith, length-take-le 65537 s h))) ∙ bench_long s (omega arith))
     (lt_or_le (length s) 65537)
 
-pub fed : (old new : Option (List ℕ)) (buf : List ℕ) (k n : ℕ) → length buf ≡ 65537 → HoldsFront old new buf (input.Bytes k) → Fed old new buf (Text k n)
-fed None new buf k n long h = tt
-fed (Some s) new buf k n long h =
+pub fed : (E F : Type 0) (old new : Option (List ℕ)) (buf : List ℕ) (t : Told) → length buf ≡ 65537 → HoldsFront {E = E} old new buf (Ok t.read)
+    → Fed {E = F} old new buf (Ok t)
+fed E F None new buf t long h = tt
+fed E F (Some s) new buf t long h =
     (ap bench h.0 ∙ subst (λ (m : ℕ). bench (take m s) ≡ bench s) (sym long) (bench_cut s), h.1)
 
 -- the input that a text is for
-pub input_of : (old new : Option (List ℕ)) (buf : List ℕ) (k n : ℕ) → Fed old new buf (Text k n) → (xs : List ℕ) × IsInput old xs × (bench (take k buf) ≡ bench xs)
-input_of None new buf k n f = (take k buf, tt, refl)
-input_of (Some s) new buf k n f = (s, refl, f.0)
+pub input_of : (E : Type 0) (old new : Option (List ℕ)) (buf : List ℕ) (t : Told) → Fed {E = E} old new buf (Ok t)
+    → (xs : List ℕ) × IsInput old xs × (bench (take t.read buf) ≡ bench xs)
+input_of E None new buf t f = (take t.read buf, tt, refl)
+input_of E (Some s) new buf t f = (s, refl, f.0)
 
 -- .. and what the reader has left
-pub lost : (old new : Option (List ℕ)) (buf : List ℕ) (k n : ℕ) → length buf ≡ 65537 → Fed old new buf (Text k n) → LosesFront old new
-lost None new buf k n long f = tt
-lost (Some s) new buf k n long f = f.1 ∙ ap (λ (m : ℕ). Some (drop m s)) long
+pub lost : (E : Type 0) (old new : Option (List ℕ)) (buf : List ℕ) (t : Told) → length buf ≡ 65537 → Fed {E = E} old new buf (Ok t) → LosesFront old new
+lost E None new buf t long f = tt
+lost E (Some s) new buf t long f = f.1 ∙ ap (λ (m : ℕ). Some (drop m s)) long

@@ -1,4 +1,4 @@
-pub mod TestLaws
+pub mod NameLaws
 pub mod LineCases
 pub mod FactorLaws
 pub mod DistinctLaws

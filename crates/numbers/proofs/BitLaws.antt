@@ -1,24 +1,22 @@
--- The bits of binary64: what finite value bits stand for, the bits of q * 2 ^ k smallest values for a q of 53 digits, which bits are NaNs', and what is printed.
+-- The bits of binary64: what finite value bits stand for, which bits are NaNs', and what is printed.
 -- That a number and its bits give each other back is in lib.Ieee.Bits: `of_bits-to_bits`, `to_bits-of_bits`, `to_bits-lt`, `of_bits-fits`.
-use mathlib.Core.Path.{◌≡◌, refl, sym, ap, ◌∙◌, subst}
-use Prim.Native.Nat.{ℕ, zero, suc, ◌+◌, ◌*◌, ◌/◌, ◌%◌, ◌^◌, ◌≤◌, ◌<◌}
-use native.Mathlib.Nat.{mod-le, le_of_lt, le_trans, lt_of_lt_of_le, not-le_of_lt, lt_of_not-le, lt_irrefl, pow-suc, zero-lt-suc, div-lt_iff_lt-mul}
+use mathlib.Core.Path.{◌≡◌, refl, sym, ◌∙◌, subst}
+use Prim.Native.Nat.{ℕ, suc, ◌+◌, ◌-◌, ◌*◌, ◌/◌, ◌%◌, ◌^◌, ◌≤◌, ◌<◌}
+use native.Mathlib.Nat.{lt_of_not-le, lt_irrefl}
 use native.Mathlib.Omega.{arith}
 use mathlib.Core.Bool.{Bool, true, false, not, cond}
-use lib.Dec.{T, leb, ltb, eqb, leb→le, eqb→eq, lt→ltb, not_T}
+use lib.Dec.{T, leb, eqb, eqb→eq, lt→ltb, not_T}
 use lib.Arith.{le→nltb}
 use lib.IntN.{pos}
-use lib.Pow.{pow_mono, shl_lt}
-use lib.Count.{count_trailing_zeros, under}
-use lib.Ieee.{Float, nan, inf, fin, binary64, minus, odd, units, fits, of_fields, of_bits, to_bits, is_nan, nan_bits, ne}
-use lib.Ieee.Bits.{is_true, is_false, cond_no, of_bits-to_bits, nan_bits_is, nan_bits_above}
+use lib.Ieee.{Float, nan, inf, fin, binary64, odd, fits, of_fields, of_bits, to_bits, is_nan, nan_bits}
+use lib.Ieee.Bits.{cond_no, of_bits-to_bits, nan_bits_is, nan_bits_above}
 use lib.Ieee.Exact.{HasValue, odd_sign}
 use Rattle.numbers.specs.Constants.{zero64}
 use Rattle.numbers.specs.Tests.{is_finite, is_zero}
 use Rattle.numbers.specs.Bits.{printed_bits}
 use Rattle.numbers.specs.Close.{◌≈◌, zeros}
 use Rattle.numbers.proofs.CloseLaws.{≈_of, ≈_sym, ≈_trans}
-use Rattle.numbers.proofs.TestLaws.{holds, fails, equal_zero}
+use Rattle.numbers.proofs.TestLaws.{holds, equal_zero}
 
 of_bits_is : (b : ℕ) → of_bits binary64 b ≡ of_fields binary64 (leb (2 ^ 63) b) (b % 2 ^ 63 / 2 ^ 52) (b % 2 ^ 52)
 unfolding of_bits
@@ -71,70 +69,22 @@ module _ (x : Float) (held : T (fits binary64 x)) (finite : is_finite x ≡ true
   pub low_value : b % 2 ^ 63 / 2 ^ 52 ≡ 0 → HasValue x (leb (2 ^ 63) b) (b % 2 ^ 52 * 2 ^ 0) (2 ^ 1074)
   low_value e = from_digits (b % 2 ^ 52) 0 (rw e (at_zero (leb (2 ^ 63) b) (b % 2 ^ 52)))
 
-  pub normal_value : (k : ℕ) → b % 2 ^ 63 / 2 ^ 52 ≡ suc k → HasValue x (leb (2 ^ 63) b) ((2 ^ 52 + b % 2 ^ 52) * 2 ^ k) (2 ^ 1074)
-  normal_value k e = from_digits (2 ^ 52 + b % 2 ^ 52) k (rw e (under_ones (leb (2 ^ 63) b) (b % 2 ^ 52) k (rw e at field_lt)))
+  by_field : (k : ℕ) → b % 2 ^ 63 / 2 ^ 52 ≡ suc k → HasValue x (leb (2 ^ 63) b) ((2 ^ 52 + b % 2 ^ 52) * 2 ^ k) (2 ^ 1074)
+  by_field k e = from_digits (2 ^ 52 + b % 2 ^ 52) k (rw e (under_ones (leb (2 ^ 63) b) (b % 2 ^ 52) k (rw e at field_lt)))
 
--- ---- the bits of q * 2 ^ k smallest values
-
--- one digit more to look at changes nothing
-tz_enough : (d n : ℕ) → 0 < n → n < 2 ^ d → count_trailing_zeros (suc d) n ≡ count_trailing_zeros d n
-unfolding count_trailing_zeros
-tz_enough zero n p h = absurd (none n p h)
-  where
-    none : (n : ℕ) → 0 < n → n < 1 → ⊥
-    none n a b = omega arith
-tz_enough (suc d) n p h = go (n % 2) refl (λ (e : n % 2 ≡ 0). tz_enough d (n / 2) (half_pos n p e) ((div-lt_iff_lt-mul (zero-lt-suc 1)).1 (subst (λ (y : ℕ). n < y) (pow-suc 2 d) h)))
-  where
-    half_pos : (n : ℕ) → 0 < n → n % 2 ≡ 0 → 0 < n / 2
-    half_pos n a e = omega arith
-
-    go : (r : ℕ) → n % 2 ≡ r → (n % 2 ≡ 0 → count_trailing_zeros (suc d) (n / 2) ≡ count_trailing_zeros d (n / 2)) → under r (count_trailing_zeros (suc d) (n / 2)) ≡ under r (count_trailing_zeros d (n / 2))
-    go zero e ih = ap suc (ih e)
-    go (suc r) e ih = refl
-
-odd_enough : (s : Bool) (q k : ℕ) → q < 2 ^ 53 → odd 54 s q k 1074 ≡ odd 53 s q k 1074
-unfolding odd
-odd_enough s zero k h = refl
-odd_enough s (suc q) k h = ap (λ (t : ℕ). fin s (suc q / 2 ^ t) (minus (k + t) 1074)) (tz_enough 53 (suc q) (zero-lt-suc q) h)
-
-units_is : (s : Bool) (q k : ℕ) → q < 2 ^ 53 → k ≤ 2044 → units binary64 s q k ≡ odd 53 s q k 1074
-unfolding units
-units_is s q k h l =
-    ap (λ (t : Bool). cond t (odd 54 s q k 1074) (inf s)) (is_true (ltb (q * 2 ^ k) (2 ^ 2098)) (lt→ltb (q * 2 ^ k) (2 ^ 2098) (lt_of_lt_of_le (shl_lt 53 k h) (pow_mono (reach k l)))))
-    ∙ odd_enough s q k h
-  where
-    reach : (k : ℕ) → k ≤ 2044 → 53 + k ≤ 2098
-    reach k l = omega arith
-
-pub units_bits : (q k : ℕ) → 2 ^ 52 ≤ q → q < 2 ^ 53 → k ≤ 2044 → of_bits binary64 (k * 2 ^ 52 + q) ≡ units binary64 false q k
-units_bits q k lo hi l =
-    let b = k * 2 ^ 52 + q in
-    of_bits_is b
-    ∙ ap (λ (s : Bool). of_fields binary64 s (b % 2 ^ 63 / 2 ^ 52) (b % 2 ^ 52)) (is_false (leb (2 ^ 63) b) (not_T (leb (2 ^ 63) b) (λ (u : T (leb (2 ^ 63) b)). not-le_of_lt (small q k hi l) (leb→le (2 ^ 63) b u))))
-    ∙ ap (λ (y : ℕ). of_fields binary64 false y (b % 2 ^ 52)) (field q k lo hi l)
-    ∙ under_ones false (b % 2 ^ 52) k (under k l)
-    ∙ ap (λ (y : ℕ). odd 53 false y k 1074) (digits q k lo hi)
-    ∙ sym (units_is false q k hi l)
-  where
-    small : (q k : ℕ) → q < 2 ^ 53 → k ≤ 2044 → k * 2 ^ 52 + q < 2 ^ 63
-    small q k h l = omega arith
-
-    field : (q k : ℕ) → 2 ^ 52 ≤ q → q < 2 ^ 53 → k ≤ 2044 → (k * 2 ^ 52 + q) % 2 ^ 63 / 2 ^ 52 ≡ suc k
-    field q k a b l = omega arith
-
-    under : (k : ℕ) → k ≤ 2044 → suc k < 2047
-    under k l = omega arith
-
-    digits : (q k : ℕ) → 2 ^ 52 ≤ q → q < 2 ^ 53 → 2 ^ 52 + (k * 2 ^ 52 + q) % 2 ^ 52 ≡ q
-    digits q k a b = omega arith
+  pub normal_value : (b % 2 ^ 63 / 2 ^ 52 ≡ 0 → ⊥) → HasValue x (leb (2 ^ 63) b) ((2 ^ 52 + b % 2 ^ 52) * 2 ^ (b % 2 ^ 63 / 2 ^ 52 - 1)) (2 ^ 1074)
+  normal_value n = by_field (b % 2 ^ 63 / 2 ^ 52 - 1) (pred (b % 2 ^ 63 / 2 ^ 52) n)
+    where
+      pred : (f : ℕ) → (f ≡ 0 → ⊥) → f ≡ suc (f - 1)
+      pred f h = omega arith
 
 -- ---- NaNs, by a test of the number and by a test of the bits
 
-pub itself_no_nan : (x : Float) → ne x x ≡ false → T (not (is_nan x))
-unfolding ne is_nan
-itself_no_nan nan p = absurd (fails p tt)
-itself_no_nan (inf s) p = tt
-itself_no_nan (fin s m e) p = tt
+pub nan_bits_of : (x : Float) → is_nan x ≡ true → 0x7ff8_0000_0000_0000 ≡ to_bits binary64 x
+unfolding is_nan to_bits
+nan_bits_of nan p = refl
+nan_bits_of (inf s) p = absurd (holds p)
+nan_bits_of (fin s m e) p = absurd (holds p)
 
 is_nan_lem : (x : Float) → T (is_nan x) → x ≡ nan
 unfolding is_nan
@@ -146,12 +96,12 @@ is_nan_lem (fin s m e) t = absurd t
 pub nan_bits_lem : (b : ℕ) → 0x7ff0_0000_0000_0000 < b % 2 ^ 63 → of_bits binary64 b ≡ nan
 nan_bits_lem b h = is_nan_lem (of_bits binary64 b) (subst T (sym (nan_bits_above binary64 b) ∙ nan_bits_is binary64 b) (lt→ltb 0x7ff0_0000_0000_0000 (b % 2 ^ 63) h))
 
+pub nan_same : (b : ℕ) → 0x7ff0_0000_0000_0000 < b % 2 ^ 63 → of_bits binary64 0x7ff8_0000_0000_0000 ≡ of_bits binary64 b
+unfolding of_bits
+nan_same b h = sym (nan_bits_lem b h)
+
 pub number_bits : (b : ℕ) → b % 2 ^ 63 ≤ 0x7ff0_0000_0000_0000 → T (not (nan_bits binary64 b))
 number_bits b h = subst (λ (t : Bool). T (not t)) (sym (nan_bits_above binary64 b)) (le→nltb 0x7ff0_0000_0000_0000 (b % 2 ^ 63) h)
-
--- bits below the infinity's
-pub no_nan_bits : (n : ℕ) → n < 0x7ff0_0000_0000_0000 → T (not (nan_bits binary64 n))
-no_nan_bits n h = number_bits n (le_trans (mod-le n (2 ^ 63)) (le_of_lt h))
 
 -- ---- what is printed
 

@@ -7,10 +7,10 @@ pub mod TestLaws
 pub mod BitLaws
 pub mod RootLaws
 pub mod RootNearest
+pub mod StdRoot
 pub mod ShownLaws
 pub mod FairLaws
 pub mod CutLaws
 pub mod NormLaws
-mod LimbLaws
 mod Squares
 mod Rounded

@@ -1,9 +1,9 @@
 -- What the functions under `shown` use of the rule, and of signed numbers. Only the first section looks into `ruled`.
 use mathlib.Core.Path.{◌≡◌, refl, sym, ap, ◌∙◌}
 use Prim.Native.Nat.{ℕ, zero, suc, ◌+◌, ◌-◌, ◌*◌, ◌/◌, ◌%◌, ◌^◌, ◌≤◌, ◌<◌, min, compare}
-use native.Mathlib.Nat.{le_trans, le_of_eq, le_of_lt, one-mul, mul_assoc, mul-le-mul, min-eq_right, le-div_iff_mul-le, div-eq_of_lt, mod-le, mod-eq_of_lt}
+use native.Mathlib.Nat.{le_trans, le_of_eq, le_of_lt, one-mul, mul_assoc, mul-le-mul, min-eq_right, min-le_right, le-div_iff_mul-le, div-eq_of_lt, mod-le, mod-eq_of_lt}
 use native.Mathlib.Omega.{arith}
-use mathlib.Core.Bool.{Bool, false}
+use mathlib.Core.Bool.{Bool, true, false}
 use lib.IntN.{ℤ, pos, neg_ℤ, ◌-ℤ◌, +ℤ_idl}
 use lib.Pow.{pow-add, pow_pos, pow_mono, pow-lt}
 use lib.Ieee.{Float, nan, inf, fin, up, down, nearest}
@@ -11,8 +11,8 @@ use lib.Ieee.Fits.{down_pos}
 use lib.Ieee.Exact.{HasValue}
 use lib.Ieee.Nearest.{closest_same, nearest-ge}
 use mir.Syntax.{w64}
-use mir.Val.{SFits, to_z}
-use mir.ValLaws.{to_z_pos}
+use mir.Val.{SFits, to_z, of_z}
+use mir.ValLaws.{to_z_pos, to_z-of_z}
 use Rattle.numbers.specs.Tests.{is_finite}
 use Rattle.numbers.specs.Shown.{ruled, most_shown, signed, shown_of}
 use Rattle.numbers.proofs.TestLaws.{fails}
@@ -104,3 +104,17 @@ negated n h = ap (λ (z : ℤ). pos 0 -ℤ z) (positive n h) ∙ +ℤ_idl (neg_�
 pub minus_fits : (n : ℕ) → n ≤ most_shown → SFits w64 (neg_ℤ (pos n))
 minus_fits zero h = record { sfits = pow_pos 63 }
 minus_fits (suc n) h = record { sfits = small n (le_of_lt h) }
+
+-- ---- from the parts of a number
+
+few : (a : ℕ) {n : ℕ} → n ≡ min a most_shown → n ≤ most_shown
+few a e = le_trans (le_of_eq e) (min-le_right a most_shown)
+
+module _ (x : Float) (s : Bool) (m e n : ℕ) (is : HasValue x s (m * 2 ^ e) (2 ^ 1074)) (held : n ≡ min (ruled (1000 * (m * 2 ^ e)) (2 ^ 1074)) most_shown) where
+  pub shown_minus : s ≡ true → to_z w64 (of_z w64 (pos 0 -ℤ to_z w64 n)) ≡ shown_of x
+  shown_minus t =
+      ap (λ (z : ℤ). to_z w64 (of_z w64 z)) (negated n (few _ held)) ∙ to_z-of_z w64 (neg_ℤ (pos n)) (minus_fits n (few _ held))
+      ∙ ap (λ (b : Bool). signed b n) (sym t) ∙ shown_value x s (m * 2 ^ e) n is held
+
+  pub shown_plus : s ≡ false → to_z w64 n ≡ shown_of x
+  shown_plus t = positive n (few _ held) ∙ ap (λ (b : Bool). signed b n) (sym t) ∙ shown_value x s (m * 2 ^ e) n is held

@@ -1,15 +1,17 @@
 -- Laws of the tests and the absolute value: what each test says of a number, and what the code's comparisons with zero say.
 use mathlib.Core.Path.{◌≡◌, refl, sym, subst}
-use Prim.Native.Nat.{ℕ, zero, suc, ◌+◌, ◌*◌, ◌<◌}
-use native.Mathlib.Nat.{zero-mul, mul-pos, zero-lt-suc}
+use Prim.Native.Nat.{ℕ, ◌*◌}
+use native.Mathlib.Nat.{zero-mul}
 use native.Mathlib.Omega.{arith}
 use mathlib.Core.Bool.{Bool, true, false, not, ◌&&◌, beq, or-true}
 use lib.IntN.{ℤ, pos}
 use lib.Dec.{T}
 use lib.Ieee.{Float, nan, inf, fin, binary64, up, down, lt, eq, le, neg, fits, is_nan, of_bits}
 use lib.Ieee.Exact.{HasValue}
-use lib.Ieee.Fits.{up_pos}
-use borrow.Author.Tests.{ltb-true, ltb-false}
+use borrow.Author.Tests.{ltb-true}
+use Rattle.std.specs.Float.{float_with_sign}
+use Rattle.std.specs.Ordering.{is_le, is_some_and, partial_le, float_partial_cmp}
+use Rattle.std.proofs.Common.{Some, None, ◌||◌, cond, Less, Equal, Greater}
 use Rattle.numbers.specs.Constants.{zero64}
 use Rattle.numbers.specs.Tests.{is_finite, abs_of, is_epsilon, in_sine, in_unit}
 use Rattle.numbers.specs.Close.{◌≈◌, same, zeros}
@@ -21,6 +23,18 @@ holds p = subst T (sym p) tt
 
 pub fails : {b : Bool} → b ≡ false → T b → ⊥
 fails p t = subst T p t
+
+-- ---- in a range, as `contains` answers it
+
+pub le_of_cmp : (x y : Float) → partial_le float_partial_cmp x y ≡ le x y
+unfolding le
+le_of_cmp x y = go (lt x y) (eq x y) (lt y x)
+  where
+    go : (a b c : Bool) → is_some_and is_le (cond a (Some Less) (cond b (Some Equal) (cond c (Some Greater) None))) ≡ (a || b)
+    go true b c = refl
+    go false true c = refl
+    go false false true = refl
+    go false false false = refl
 
 -- ---- finite
 
@@ -35,12 +49,26 @@ finite_no_nan nan p = absurd (holds p)
 finite_no_nan (inf s) p = tt
 finite_no_nan (fin s m e) p = tt
 
-pub between_infinities : (x : Float) → (lt (inf true) x && lt x (inf false)) ≡ is_finite x
-unfolding lt
-between_infinities nan = refl
-between_infinities (inf true) = refl
-between_infinities (inf false) = refl
-between_infinities (fin s m e) = refl
+-- against the two infinities, as the code has them by their bits
+pub above_minus : (x : Float) → lt (of_bits binary64 0xfff0_0000_0000_0000) x ≡ true → lt x (of_bits binary64 0x7ff0_0000_0000_0000) ≡ is_finite x
+unfolding lt of_bits
+above_minus nan p = absurd (holds p)
+above_minus (inf true) p = absurd (holds p)
+above_minus (inf false) p = refl
+above_minus (fin s m e) p = refl
+
+pub not_above_minus : (x : Float) → lt (of_bits binary64 0xfff0_0000_0000_0000) x ≡ false → lt (of_bits binary64 0xfff0_0000_0000_0000) x ≡ is_finite x
+unfolding lt of_bits
+not_above_minus nan p = refl
+not_above_minus (inf true) p = refl
+not_above_minus (inf false) p = absurd (fails p tt)
+not_above_minus (fin s m e) p = absurd (fails p tt)
+
+pub sign_cleared : (x : Float) → float_with_sign false x ≡ abs_of x
+unfolding float_with_sign
+sign_cleared nan = refl
+sign_cleared (inf s) = refl
+sign_cleared (fin s m e) = refl
 
 -- from one finite number to another
 bounded : (s t : Bool) (m n : ℕ) (e d : ℤ) (x : Float) → (le (fin s m e) x && le x (fin t n d)) ≡ true → is_finite x ≡ true
@@ -82,22 +110,3 @@ pub zero_not_above : (s : Bool) (e : ℤ) → lt zero64 (fin s 0 e) ≡ true →
 unfolding lt of_bits
 zero_not_above true e p = holds p
 zero_not_above false e p = omega (arith, ltb-true (0 * 1 * down e) (0 * up e * 1) p)
-
-pub below_zero : (x : Float) → lt x zero64 ≡ true → abs_of x ≡ neg x
-unfolding lt neg of_bits
-below_zero nan p = absurd (holds p)
-below_zero (inf true) p = refl
-below_zero (inf false) p = absurd (holds p)
-below_zero (fin true m e) p = refl
-below_zero (fin false m e) p = absurd (omega (arith, ltb-true (m * up e * 1) (0 * 1 * down e) p))
-
-pub above_zero : (x : Float) → lt x zero64 ≡ false → eq x zero64 ≡ false → abs_of x ≡ x
-unfolding lt of_bits
-above_zero nan p q = refl
-above_zero (inf true) p q = absurd (fails p tt)
-above_zero (inf false) p q = refl
-above_zero (fin false m e) p q = refl
-above_zero (fin true zero e) p q = absurd (fails q (holds (zero_equal true e)))
-above_zero (fin true (suc m) e) p q =
-    let a : 0 < suc m * up e = mul-pos (zero-lt-suc m) (up_pos e) in
-    absurd (omega (arith, ltb-false 0 (suc m * up e * 1 + 0 * 1 * down e) p))

@@ -1,14 +1,15 @@
 -- 1 and -1: their bits, that a product with one of them is exact, and that neither is 0. Assumes nothing.
-use Prim.Native.Nat.{ℕ, zero, suc, ◌+◌, ◌*◌, ◌%◌, ◌<◌}
+use Prim.Native.Nat.{ℕ, zero, suc, ◌+◌, ◌*◌, ◌%◌, ◌^◌, ◌≤◌, ◌<◌}
 use mathlib.Core.Path.{◌≡◌, refl, ap, ap₂, ◌∙◌}
-use mathlib.Core.Bool.{Bool, true, false, cond}
+use mathlib.Core.Bool.{Bool, true, false, not, cond}
 use native.Mathlib.Nat.{mul-one, mod-lt}
 use native.Mathlib.Omega.{arith}
 use lib.Dec.{T, eqb}
 use lib.Pow.{pow_pos}
-use lib.Ieee.{Float, nan, inf, fin, binary64, up, down, round, neg, mul, eq, fits, of_bits}
+use lib.Ieee.{Float, nan, inf, fin, binary64, up, down, round, neg, mul, eq, fits, of_bits, nan_bits}
 use Rattle.numbers.specs.Constants.{one64, minus_one64}
 use Rattle.numbers.specs.Tests.{is_zero}
+use Rattle.numbers.proofs.BitLaws.{number_bits}
 use Rattle.numbers.proofs.ValueLaws.{round_own}
 use Rattle.numbers.proofs.SignLaws.{mul_neg}
 
@@ -40,6 +41,12 @@ unit_bits n = go (n % 2) (mod-lt n (pow_pos 1))
     go zero h = refl
     go (suc zero) h = refl
     go (suc (suc r)) h = absurd (omega arith)
+
+pub unit_no_nan : (n : ℕ) → T (not (nan_bits binary64 (0x3ff0_0000_0000_0000 + 0x8000_0000_0000_0000 * (n % 2))))
+unit_no_nan n = number_bits _ (small n)
+  where
+    small : (n : ℕ) → (0x3ff0_0000_0000_0000 + 0x8000_0000_0000_0000 * (n % 2)) % 2 ^ 63 ≤ 0x7ff0_0000_0000_0000
+    small n = omega arith
 
 -- a product with that: the number kept or negated
 pub times_unit : (x : Float) → T (fits binary64 x) → (b : Bool) → mul binary64 x (cond b minus_one64 one64) ≡ cond b (neg x) x

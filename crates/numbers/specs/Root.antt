@@ -63,10 +63,3 @@ pub record Nearest (x r : Float) : Type 0 where
   pub sign : le zero64 r ≡ true
   pub above : (y : Float) → T (fits binary64 y) → is_finite y ≡ true → units_of r < units_of y → 4 * (units_of x * 2 ^ 1074) < square (units_of r + units_of y)
   pub below : (y : Float) → T (fits binary64 y) → is_finite y ≡ true → units_of y < units_of r → square (units_of r + units_of y) < 4 * (units_of x * 2 ^ 1074)
-
--- ---- words of the private contracts
-
--- r is the whole root of n and rest is what it leaves: n = r * r + rest, with rest at most 2 * r
-pub record IsRoot (n r rest : ℕ) : Type 0 where
-  pub whole : r * r + rest ≡ n
-  pub small : rest ≤ 2 * r

@@ -1,26 +1,31 @@
 // A number and the 64 bits that stand for it.
-ghost use Rattle.std.specs.Prelude.{◌≡◌, true};
+ghost use Rattle.std.specs.Prelude.{◌≡◌, ◌*◌, ◌^◌, ◌<◌, ◌≤◌, false, MatchOption};
 ghost use Rattle.std.specs.Float.{binary64};
 ghost use Rattle.std.specs.Float.Ieee.{to_bits, of_bits};
+ghost use Rattle.std.specs.Float.Ieee.Exact.{HasValue};
 ghost use Rattle.numbers.specs.Tests.{is_finite};
-ghost use Rattle.numbers.specs.Bits.{printed_bits, IsParts};
+ghost use Rattle.numbers.specs.Bits.{printed_bits};
+
+use crate::tests::is_finite;
 
 // The bits of x. A NaN has many: 7ff8000000000000 is given for each.
+#[tactic(auto, using(crate::proofs::BitLaws::nan_bits_of))]
 pub fn bits_of(x: f64) -> u64
     ensures { result ≡ to_bits binary64 x }
 {
-    if x != x {
+    if x.is_nan() {
         return 0x7ff8_0000_0000_0000;
     }
-    f64::to_bits(x)
+    x.to_bits()
 }
 
 // The number of 64 bits.
+#[tactic(auto, using(crate::proofs::BitLaws::nan_same, crate::proofs::BitLaws::number_bits))]
 pub fn of_bits(bits: u64) -> f64
     ensures { result ≡ of_bits binary64 bits }
 {
     if 0x7ff0_0000_0000_0000 < bits % 0x8000_0000_0000_0000 {
-        return 0.0 / 0.0;
+        return f64::NAN;
     }
     f64::from_bits(bits)
 }
@@ -29,11 +34,7 @@ pub fn of_bits(bits: u64) -> f64
 pub fn printed_bits(x: f64) -> u64
     ensures { result ≡ printed_bits x }
 {
-    let bits = bits_of(x);
-    if x == 0.0 {
-        return 0;
-    }
-    bits
+    if x == 0.0 { 0 } else { bits_of(x) }
 }
 
 // A finite number taken apart: digits * 2 ^ power of the smallest values, 2 ^ -1074.
@@ -42,27 +43,32 @@ pub(crate) struct Parts {
     pub(crate) minus: bool,
     pub(crate) digits: u64,
     pub(crate) power: u64,
+    ghost few: { digits < 2 ^ 53 },
+    ghost lead: { 0 < power → 2 ^ 52 ≤ digits },
 }
 
-pub(crate) fn parts_of(x: f64) -> Parts
-    requires { is_finite x ≡ true }
-    ensures { IsParts x result.minus result.digits result.power }
+// The parts of x; None for a NaN and an infinity.
+#[tactic(auto, using(crate::proofs::TestLaws::finite_no_nan, crate::proofs::BitLaws::low_value, crate::proofs::BitLaws::normal_value))]
+pub(crate) fn parts_of(x: f64) -> Option<Parts>
+    ensures { MatchOption result (is_finite x ≡ false) (λ p. HasValue x p.minus (p.digits * 2 ^ p.power) (2 ^ 1074)) }
 {
-    let bits = f64::to_bits(x);
+    if !is_finite(x) {
+        return None;
+    }
+    let bits = x.to_bits();
     let minus = 0x8000_0000_0000_0000 <= bits;
     let field = bits % 0x8000_0000_0000_0000 / 0x0010_0000_0000_0000;
     let low = bits % 0x0010_0000_0000_0000;
     if field == 0 {
-        Parts {
+        return Some(Parts {
             minus,
             digits: low,
             power: 0,
-        }
-    } else {
-        Parts {
-            minus,
-            digits: 0x0010_0000_0000_0000 + low,
-            power: field - 1,
-        }
+        });
     }
+    Some(Parts {
+        minus,
+        digits: 0x0010_0000_0000_0000 + low,
+        power: field - 1,
+    })
 }

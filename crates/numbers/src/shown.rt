@@ -1,62 +1,60 @@
-// The mean as it is shown. The rule that makes a fraction a whole number is `ruled` of specs/Shown.antt and `ruled_shift` here.
-ghost use Rattle.std.specs.Prelude.{◌≡◌, ◌*◌, ◌^◌, ◌<◌, ◌≤◌, min};
+// The mean as it is shown. The rule that makes a fraction a whole number is `ruled` of specs/Shown.antt and `round_half_even` here.
+ghost use Rattle.std.specs.Prelude.{◌≡◌, ◌*◌, ◌^◌, ◌<◌, min};
 ghost use Rattle.numbers.specs.Shown.{ruled, most_shown, shown_of};
 
-use crate::bits::parts_of;
-use crate::tests::is_finite;
+use crate::bits::{Parts, parts_of};
+use std::cmp::Ordering;
+
+const MOST_SHOWN: u64 = 999_999_999;
 
 // The exact 1000 * mean to the nearest whole number, an exact half to the even one, held within ±999,999,999; 0 for a NaN and an infinity.
+#[tactic(auto, using(crate::proofs::ShownLaws::shown_none, crate::proofs::ShownLaws::shown_minus, crate::proofs::ShownLaws::shown_plus))]
 pub fn shown(mean: f64) -> i64
     ensures { result ≡ shown_of mean }
 {
-    if is_finite(mean) {
-        let p = parts_of(mean);
-        let n = thousandths(p.digits, p.power) as i64;
-        if p.minus {
-            return -n;
-        }
-        return n;
-    }
-    0
+    let Some(p) = parts_of(mean) else {
+        return 0;
+    };
+    let n = thousandths(p) as i64;
+    if p.minus { -n } else { n }
 }
 
 // 1000 times digits * 2 ^ power smallest values, by the rule, and held at 999,999,999.
-fn thousandths(digits: u64, power: u64) -> u64
-    requires { (digits < 2 ^ 53) × (0 < power → 2 ^ 52 ≤ digits) }
-    ensures { result ≡ min (ruled (1000 * (digits * 2 ^ power)) (2 ^ 1074)) most_shown }
+#[tactic(auto, using(crate::proofs::ShownLaws::low_power, crate::proofs::ShownLaws::high_power))]
+fn thousandths(p: Parts) -> u64
+    ensures { result ≡ min (ruled (1000 * (p.digits * 2 ^ p.power)) (2 ^ 1074)) most_shown }
 {
-    if power < 1074 {
-        let n = ruled_shift(1000 * digits, 1074 - power);
-        if n < 999_999_999 {
-            return n;
-        }
+    if p.power < 1074 {
+        ruled_shift(1000 * p.digits, 1074 - p.power).min(MOST_SHOWN)
+    } else {
+        MOST_SHOWN
     }
-    999_999_999
 }
 
 // n / 2 ^ by as a whole number, by the rule.
+#[tactic(auto, using(crate::proofs::ShownLaws::shifted_one, crate::proofs::ShownLaws::ruled_small))]
 fn ruled_shift(n: u64, by: u64) -> u64
     requires { n < 2 ^ 63 }
     ensures { result ≡ ruled n (2 ^ by) }
 {
     if by < 64 {
-        return round_half_even(n, 1u64 << by);
+        round_half_even(n, 1 << by)
+    } else {
+        0
     }
-    0
 }
 
 // n / unit as a whole number, by the rule: the quotient or the next number, and at an exact half the even one of the two.
+#[tactic(auto, using(crate::proofs::ShownLaws::ruled_less, crate::proofs::ShownLaws::ruled_half, crate::proofs::ShownLaws::ruled_more))]
 fn round_half_even(n: u64, unit: u64) -> u64
     requires { (n < 2 ^ 63) × (0 < unit) }
     ensures { result ≡ ruled n unit }
 {
     let whole = n / unit;
     let twice = n % unit * 2;
-    if twice < unit {
-        return whole;
+    match twice.cmp(&unit) {
+        Ordering::Less => whole,
+        Ordering::Equal => whole + whole % 2,
+        Ordering::Greater => whole + 1,
     }
-    if twice == unit {
-        return whole + whole % 2;
-    }
-    whole + 1
 }

@@ -1,5 +1,5 @@
 // Which ops a run applies: the t count, and the marks of the runs.
-ghost use Rattle.std.specs.Prelude.{◌≡◌, cond, [], ◌∷◌, ◌*◌, ◌/◌, min, length, set};
+ghost use Rattle.std.specs.Prelude.{◌≡◌, ◌*◌, ◌/◌, min, length, set};
 ghost use Rattle.ops.specs.Ops.{shape_of, targets, is_rotation, is_barrier, t_count};
 ghost use Rattle.ops.specs.Marks.{mark_all, mark_path};
 ghost use Rattle.ops.specs.Sets.{overlay, packed, set_marks, letters_in_any, ConeMarked};
@@ -60,22 +60,12 @@ pub fn path_marks(ops: &[Op], marks: &mut [bool])
     }
 }
 
-fn one_or_two(two: bool, a: usize, b: usize) -> Targets
-    ensures { result ≡ packed (cond two (a ∷ b ∷ []) (a ∷ [])) }
-{
-    if two {
-        Targets::Two(a, b)
-    } else {
-        Targets::One(a)
-    }
-}
-
 // The targets of an op: none, one or two.
 pub fn targets_of(op: Op) -> Targets
     ensures { result ≡ packed (targets op) }
 {
     match op {
-        Op::Native(gate, a, b) => one_or_two(has_two_targets(gate), a, b),
+        Op::Native(gate, a, b) if has_two_targets(gate) => Targets::Two(a, b),
         Op::Rzz(a, b, _, _) | Op::Depol2(a, b, _) => Targets::Two(a, b),
         Op::T(q)
         | Op::Tdg(q)
@@ -85,7 +75,8 @@ pub fn targets_of(op: Op) -> Targets
         | Op::Depol(q, _)
         | Op::Damp(q, _)
         | Op::Phase(q, _)
-        | Op::Thermal(q, _, _, _) => Targets::One(q),
+        | Op::Thermal(q, _, _, _)
+        | Op::Native(_, q, _) => Targets::One(q),
         Op::Barrier => Targets::Nothing,
     }
 }

@@ -1,7 +1,9 @@
 // Whether the words of a row have an op's targets.
-ghost use Rattle.std.specs.Prelude.{◌≡◌, cond, [], ◌∷◌};
+ghost use Rattle.std.specs.Prelude.{◌≡◌, [], ◌∷◌};
+ghost use Rattle.terms.specs.Met.{targets};
 ghost use Rattle.ops.specs.Ops.{on_words};
 
+#[tactic(auto, using(crate::proofs::TargetLaws::qubit_test), unfolding(crate::specs::Ops::on_words))]
 pub fn has_qubit(w: usize, q: usize) -> bool
     ensures { result ≡ on_words w (q ∷ []) }
 {
@@ -9,22 +11,18 @@ pub fn has_qubit(w: usize, q: usize) -> bool
 }
 
 // Two targets, distinct.
+#[tactic(auto, using(crate::proofs::TargetLaws::pair_yes, crate::proofs::TargetLaws::pair_second, crate::proofs::TargetLaws::pair_first))]
 pub fn has_pair(w: usize, a: usize, b: usize) -> bool
     ensures { result ≡ on_words w (a ∷ b ∷ []) }
 {
-    if has_qubit(w, a) {
-        if has_qubit(w, b) { a != b } else { false }
-    } else {
-        false
-    }
+    has_qubit(w, a) && has_qubit(w, b) && a != b
 }
 
-pub fn has_targets(two: bool, w: usize, a: usize, b: usize) -> bool
-    ensures { result ≡ on_words w (cond two (a ∷ b ∷ []) (a ∷ [])) }
+pub fn has_targets(w: usize, a: usize, b: Option<usize>) -> bool
+    ensures { result ≡ on_words w (targets a b) }
 {
-    if two {
-        has_pair(w, a, b)
-    } else {
-        has_qubit(w, a)
+    match b {
+        None => has_qubit(w, a),
+        Some(b) => has_pair(w, a, b),
     }
 }

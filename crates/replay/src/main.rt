@@ -5,15 +5,13 @@
 mod rowtext; // rowtext.rt: the rows as text
 mod stream; // stream.rt: the sheets of a stream
 
-use input::reading::{self, read_input};
+use input::reading::read_input;
 use text::parts::part_to;
 
 // Reads a stream into the buffer and answers its sheets, as far as they stand whole in the buffer. Where a read fails there is no answer.
 fn replay_input<R: Input + Print>(rt: &R, buf: &mut [u8; 2097152]) {
-    let read = read_input(&mut rt.reader(), buf);
-    match read {
-        reading::Input::Bytes(n) => stream::answer_all(rt, part_to(buf, n)),
-        reading::Input::Failed => {}
+    if let Ok(n) = read_input(&mut rt.reader(), buf) {
+        stream::answer_all(rt, part_to(buf, n));
     }
 }
 

@@ -7,8 +7,8 @@ use Prim.Native.Nat.{ℕ, suc, ◌+◌, ◌-◌, ◌*◌, ◌≤◌, ◌<◌}
 use native.Mathlib.Numerals.{add-one}
 use native.Mathlib.Omega.{arith}
 use lib.Dec.{leb, ltb}
-use lib.ListN.{length, get_or, set, take, drop, replicate, length-append, length-replicate, replicate-append-replicate}
-use lib.Seq.{length-take-le, drop-cons, set_at}
+use lib.ListN.{length, get_or, set, take, drop, replicate, length-append, length-drop, length-replicate, replicate-append-replicate}
+use lib.Seq.{length-take-le, drop-cons, drop-drop, set_at}
 use lib.Ieee.{Float}
 use borrow.Author.Tests.{lt-ltb, le-ltb, le-leb}
 use Rattle.numbers.specs.Constants.{zero64}
@@ -34,6 +34,16 @@ module _ {A : Type 0} (z : A) (a : ℕ) (l : List A) where
       ∙ ap (λ (m : List A). take a l ++ m) (sym (append_assoc (replicate (i - a) z) (z ∷ []) (drop (suc i) l))
       ∙ ap (λ (m : List A). m ++ drop (suc i) l) (replicate-append-replicate (i - a) 1 z))
       ∙ (λ k. take a l ++ (replicate (more k) z ++ drop (sym (add-one i) k) l))
+
+-- a part that is filled with one value
+pub filled_part : {A : Type 0} (z : A) (a b : ℕ) (l : List A) {v : List A} → a ≤ b → b ≤ length l → v ≡ replicate (length (take (b - a) (drop a l))) z
+    → take a l ++ (v ++ drop (b - a) (drop a l)) ≡ filled z a b l
+unfolding filled
+filled_part z a b l {v} h k e =
+    let long : length (take (b - a) (drop a l)) ≡ b - a = length-take-le (b - a) (drop a l) (simp length-drop (omega arith)) in
+    let end : a + (b - a) ≡ b = omega arith in
+    ap (λ m. take a l ++ (m ++ drop (b - a) (drop a l))) (e ∙ ap (λ n. replicate n z) long)
+    ∙ ap (λ m. take a l ++ (replicate (b - a) z ++ m)) (drop-drop (b - a) a l ∙ ap (λ n. drop n l) end)
 
 -- ---- rows that are cleared
 

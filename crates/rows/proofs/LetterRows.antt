@@ -1,21 +1,21 @@
 -- The count of rows that have a letter on at least one of the targets of a step, and a step that meets none. Assumes nothing.
 use mathlib.Core.Path.{◌≡◌, refl, sym, ap, ap₂, ◌∙◌, subst⁻¹}
-use mathlib.Core.Bool.{Bool, true, false, cond, ◌&&◌}
+use mathlib.Core.Bool.{Bool, true, false, cond}
 use mathlib.Core.List.{List, [], ◌∷◌}
-use Prim.Native.Nat.{ℕ, ◌+◌, ◌*◌, ◌/◌, ◌%◌, ◌≤◌, ◌<◌}
-use native.Mathlib.Nat.{le_refl}
+use Prim.Native.Nat.{ℕ, ◌+◌, ◌*◌, ◌/◌, ◌%◌, ◌<◌}
 use native.Mathlib.Omega.{arith}
-use lib.Dec.{leb, ltb}
-use borrow.Author.Tests.{le-ltb, lt-ltb, ltb-true, leb-true, le-leb}
+use lib.Dec.{leb}
+use borrow.Author.Tests.{leb-true, le-leb}
 use lib.Bits.{bit_or}
 use lib.ListN.{length, get_or}
 use lib.Ieee.{Float}
 use Rattle.words.specs.Keys.{Key, bit_of, bit_at, z_at, has_letter}
 use Rattle.words.proofs.BitNumbers.{either_bits}
-use Rattle.terms.specs.Lists.{All}
+use Rattle.terms.specs.Lists.{All, tab, foldl}
 use Rattle.terms.specs.Term.{Term}
-use Rattle.terms.specs.Met.{one_or_two, in_words, letter_among, add_met, met_terms}
-use Rattle.terms.proofs.CaseLaws.{cond_holds, and_true}
+use Rattle.std.specs.Prelude.{Option}
+use Rattle.std.specs.Bool.{then_some}
+use Rattle.terms.specs.Met.{one_or_two, targets, in_words, letter_among, add_met, met_terms}
 use Rattle.terms.proofs.ListLaws.{fold_tab}
 use Rattle.terms.proofs.MetLaws.{one_letter, two_letters, none_met_bare}
 use Rattle.terms.proofs.LetterSteps.{Bare}
@@ -60,42 +60,20 @@ module _ (w a b : ℕ) (k : Key) {x : ℕ} where
   pub two_numbers : {y : ℕ} → x ≡ cond (has_letter w k a) 1 0 → y ≡ cond (has_letter w k b) 1 0 → bit_or x y ≡ letter_number w (a ∷ b ∷ []) k
   two_numbers p q = either_bits (has_letter w k a) (has_letter w k b) p q ∙ ap (λ (c : Bool). cond c 1 0) (two_letters w a b k)
 
--- ---- whether the words have the targets
-and_yes : (b : Bool) → b ≡ (b && true)
-and_yes true = refl
-and_yes false = refl
-
-module _ (w a b : ℕ) (two : Bool) where
-  pub out_words : w ≤ a / 64 → false ≡ in_words w (one_or_two two a b)
-  out_words h = go two
-    where
-      go : (t : Bool) → false ≡ in_words w (one_or_two t a b)
-      go true = sym (rw (le-ltb (a / 64) w h) refl)
-      go false = sym (rw (le-ltb (a / 64) w h) refl)
-
-  pub two_in_words : a / 64 < w → two ≡ true → ltb (b / 64) w ≡ in_words w (one_or_two two a b)
-  two_in_words h t = rw (t, lt-ltb (a / 64) w h) (and_yes (ltb (b / 64) w))
-
-  pub one_in_words : a / 64 < w → two ≡ false → true ≡ in_words w (one_or_two two a b)
-  one_in_words h t = rw (t, lt-ltb (a / 64) w h) refl
-
-  pub words_one : in_words w (one_or_two two a b) ≡ true → two ≡ false → (a / 64 < w) × (in_words w (a ∷ []) ≡ true)
-  words_one e t = let f : in_words w (a ∷ []) ≡ true = ap (λ (c : Bool). in_words w (one_or_two c a b)) (sym t) ∙ e in (ltb-true (a / 64) w (and_true (ltb (a / 64) w) true f).0, f)
-
-  pub words_two : in_words w (one_or_two two a b) ≡ true → two ≡ true → (a / 64 < w) × (b / 64 < w) × (in_words w (a ∷ b ∷ []) ≡ true)
-  words_two e t =
-      let f : in_words w (a ∷ b ∷ []) ≡ true = ap (λ (c : Bool). in_words w (one_or_two c a b)) (sym t) ∙ e in
-      let p = and_true (ltb (a / 64) w) (ltb (b / 64) w && true) f in
-      (ltb-true (a / 64) w p.0, ltb-true (b / 64) w (and_true (ltb (b / 64) w) true p.1).0, f)
-
--- ---- the loop
+-- ---- the count
 module _ (w : ℕ) (qs : List ℕ) where
-  pub one_at_most : (k : Key) {v : ℕ} → v ≡ letter_number w qs k → v ≤ 1
-  one_at_most k e = rw e (cond_holds (λ n. n ≤ 1) (letter_among w qs k) (le_refl 1) (omega arith))
+  pub count_start : (ws : List ℕ) (cs : List Float) → met_terms w qs (terms_in (2 * w) 0 ws cs) ≡ 0
+  unfolding tab foldl
+  count_start ws cs = refl
 
-  pub count_turn : (i : ℕ) (ws : List ℕ) (cs : List Float) {count v : ℕ} → count ≡ met_terms w qs (terms_in (2 * w) i ws cs)
-      → v ≡ letter_number w qs (key_at (2 * w) ws i) → count + v ≡ met_terms w qs (terms_in (2 * w) (i + 1) ws cs)
-  count_turn i ws cs e q = ap₂ ◌+◌ e q ∙ sym (fold_tab (add_met w qs) 0 (term_at (2 * w) ws cs) i)
+  pub count_turn : (i : ℕ) (ws : List ℕ) (cs : List Float) {v : ℕ} → v ≡ letter_number w qs (key_at (2 * w) ws i)
+      → met_terms w qs (terms_in (2 * w) (i + 1) ws cs) ≡ met_terms w qs (terms_in (2 * w) i ws cs) + v
+  count_turn i ws cs e = fold_tab (add_met w qs) 0 (term_at (2 * w) ws cs) i ∙ ap (λ (n : ℕ). met_terms w qs (terms_in (2 * w) i ws cs) + n) (sym e)
+
+-- ---- the targets of a step that has two or one
+pub targets_of : (two : Bool) (a b : ℕ) {o : Option ℕ} → o ≡ then_some two b → targets a o ≡ one_or_two two a b
+targets_of true a b e = rw e
+targets_of false a b e = rw e
 
 -- ---- what a step reports
 module _ (w n : ℕ) (qs : List ℕ) (ws : List ℕ) (cs : List Float) where

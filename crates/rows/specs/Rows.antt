@@ -1,6 +1,6 @@
 -- Terms in two lent buffers. A row has s words, its key, and one number: row i has the s words from i * s on, where s is 2 * W,
 -- and the number i. "There are as many rows as every lent row buffer holds whole."
-use Rattle.std.specs.Prelude.{◌≡◌, ℕ, ◌+◌, ◌-◌, ◌*◌, ◌/◌, ◌≤◌, min, cond, ◌&&◌, List, [], ◌∷◌, ◌++◌, leb, length, take, drop, get_or, set, replicate, Float}
+use Rattle.std.specs.Prelude.{◌≡◌, ℕ, ◌+◌, ◌-◌, ◌*◌, ◌/◌, ◌≤◌, min, cond, ◌&&◌, Option, Some, None, List, [], ◌∷◌, ◌++◌, leb, length, take, drop, get_or, set, replicate, Float}
 use Rattle.std.specs.Float.{nan}
 use Rattle.numbers.specs.Constants.{zero64}
 use Rattle.words.specs.Keys.{Key}

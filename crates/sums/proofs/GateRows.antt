@@ -1,17 +1,17 @@
 -- One row through a gate, and a loop over the rows. Assumes nothing.
 use mathlib.Core.Path.{◌≡◌, refl, sym, ap, ap₂, ◌∙◌, subst⁻¹}
 use mathlib.Core.Bool.{Bool, true, false, cond, ◌&&◌, true≢false}
-use mathlib.Core.List.{List, [], ◌∷◌, ◌++◌}
+use mathlib.Core.List.{List, ◌++◌, map}
 use Prim.Native.Nat.{ℕ, zero, suc, ◌+◌, ◌-◌, ◌*◌, ◌/◌, ◌%◌, ◌≤◌, ◌<◌}
 use native.Mathlib.Nat.{le_refl, mod-lt}
 use lib.Dec.{ltb, eqb}
 use lib.Pow.{pow_pos}
-use borrow.Author.Tests.{eqb-true, eqb-false}
+use borrow.Author.Tests.{eqb-true, eqb-false, leb-true}
 use Rattle.words.specs.declared.Bits as B
 use Rattle.words.specs.Keys.{Key, ◌⊕◌}
 use native.Mathlib.Omega.{arith}
-use lib.ListN.{length, take, drop, get_or}
-use lib.Ieee.{Float, nan, neg}
+use lib.ListN.{length, take, drop}
+use lib.Ieee.{Float}
 use Rattle.words.specs.declared.Gate.{Gate}
 use Rattle.words.specs.Gates.{bits_at, conj_key, conj_phase, has_phase}
 use Rattle.words.proofs.GateLaws.{conj_key_length, no_phase}
@@ -22,10 +22,10 @@ use Rattle.terms.specs.Coefficient.{signed, negates, asks_word}
 use Rattle.terms.proofs.SignLaws.{negates_turns, phaseless, asks}
 use Rattle.terms.specs.Term.{Term, odd_y, conjugated}
 use Rattle.words.specs.Rows.{key_at}
-use Rattle.rows.specs.Rows.{coeff_at, term_at, terms_in, rows_in, put_key, put_coeff, Holds}
+use Rattle.rows.specs.Rows.{coeff_at, term_at, terms_in, rows_in, put_key, put_coeff, Holds, Stepped}
 use Rattle.rows.proofs.RowLaws.{length_key, put_val_same}
 use Rattle.rows.proofs.HoldLaws.{hold_start, hold_map_row, room_at}
-use Rattle.rows.proofs.StepLaws.{rows_room, held_rows, held_map}
+use Rattle.rows.proofs.StepLaws.{rows_room, room_yes, held_rows, held_map, stepped_held}
 use Rattle.sums.specs.Through.{Through}
 
 -- the sign as the code makes it: of the parity only where the gate asks for it
@@ -125,22 +125,18 @@ module _ (g : Gate) (w n a b i : ℕ) {ws₀ ws : List ℕ} {cs₀ cs : List Flo
 pub through_arm : {g k : Gate} (w n a b : ℕ) {ws ws' : List ℕ} {cs cs' : List Float} → g ≡ k → Through k w n a b ws ws' cs cs' → Through g w n a b ws ws' cs cs'
 through_arm w n a b {ws} {ws'} {cs} {cs'} e h = subst⁻¹ (λ (g : Gate). Through g w n a b ws ws' cs cs') e h
 
+-- the step over the rows that are there
+pub stepped_through : (g : Gate) (w n a b : ℕ) {r : ℕ} {ws ws' : List ℕ} {cs cs' : List Float} → r ≡ rows_in w ws cs → n ≤ r → Through g w n a b ws ws' cs cs'
+    → Stepped w n n n (map (conjugated w g a b) (terms_in (2 * w) n ws cs)) n ws ws' cs cs'
+stepped_through g w n a b {r} {ws} {ws'} {cs} {cs'} e h H =
+    let y = room_yes w n ws cs e h in
+    stepped_held w n n y (rows_room w n ws cs (leb-true n _ y)).coeffs_room H
+
 -- a number after quarter turns
 pub turned_half : (n : ℕ) (v : Float) → signed (eqb (n % 4 / 2 % 2) 1) v ≡ signed (ltb 1 (n % 4)) v
 turned_half n v = ap (λ (b : Bool). signed b v) (go (n % 4) (mod-lt n (pow_pos 2)))
   where
     go : (r : ℕ) → r < 4 → eqb (r / 2 % 2) 1 ≡ ltb 1 r
-    go zero h = refl
-    go (suc zero) h = refl
-    go (suc (suc zero)) h = refl
-    go (suc (suc (suc zero))) h = refl
-    go (suc (suc (suc (suc r)))) h = absurd (omega arith)
-
--- the same number, found by its place
-pub turned_at : (n : ℕ) (v : Float) → get_or (v ∷ v ∷ neg v ∷ neg v ∷ []) (n % 4) nan ≡ signed (ltb 1 (n % 4)) v
-turned_at n v = go (n % 4) (mod-lt n (pow_pos 2))
-  where
-    go : (r : ℕ) → r < 4 → get_or (v ∷ v ∷ neg v ∷ neg v ∷ []) r nan ≡ signed (ltb 1 r) v
     go zero h = refl
     go (suc zero) h = refl
     go (suc (suc zero)) h = refl

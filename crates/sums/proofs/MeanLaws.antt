@@ -2,14 +2,15 @@
 use mathlib.Core.Path.{◌≡◌, refl, sym, ap, ◌∙◌}
 use mathlib.Core.Bool.{Bool, true, false, cond, ◌&&◌, and-true, and_assoc}
 use mathlib.Core.List.{List, [], ◌∷◌}
-use Prim.Native.Nat.{ℕ, zero, suc, ◌+◌, ◌-◌, ◌*◌, ◌≤◌, ◌<◌, zero-le, suc-le-suc}
+use Prim.Native.Nat.{ℕ, zero, suc, ◌+◌, ◌-◌, ◌*◌, ◌≤◌, ◌<◌}
+use native.Mathlib.Nat.{add-sub_cancel_left}
 use native.Mathlib.Numerals.{add-one}
 use native.Mathlib.Omega.{arith}
 use lib.Dec.{eqb}
-use lib.ListN.{length, get_or, take, drop, length-drop, get_or-eq_default}
-use lib.Seq.{length-take-le, get_or-take, get_or-drop, take-take}
+use Rattle.std.specs.List.{list_all}
+use lib.ListN.{length, get_or, take, drop, get_or-eq_default}
+use lib.Seq.{length-take-le, get_or-take, take-take}
 use lib.Ieee.{Float, nan, binary64, add}
-use borrow.Author.Tests.{eq-eqb, ne_eqb}
 use Rattle.numbers.specs.Tests.{is_finite}
 use Rattle.words.specs.Keys.{all_zero, no_x}
 use Rattle.terms.specs.Mean.{add_mean}
@@ -23,25 +24,14 @@ use Rattle.sums.specs.Steps.{finite_rows}
 
 -- ---- words that are all 0
 
-zero_differ : (k : List ℕ) (l : ℕ) → (get_or k l 0 ≡ 0 → ⊥) → all_zero k ≡ false
+same_zeros : (k : List ℕ) → list_all (λ x. eqb x 0) k ≡ all_zero k
 unfolding all_zero
-zero_differ [] l n = absurd (n refl)
-zero_differ (x ∷ k) zero n = rw (ne_eqb x 0 n)
-zero_differ (x ∷ k) (suc l) n = rw (zero_differ k l n) (and-false (eqb x 0))
+same_zeros [] = refl
+same_zeros (x ∷ k) = ap (λ (b : Bool). eqb x 0 && b) (same_zeros k)
 
-zero_all : (k : List ℕ) → ((l : ℕ) → l < length k → get_or k l 0 ≡ 0) → all_zero k ≡ true
-unfolding all_zero
-zero_all [] h = refl
-zero_all (x ∷ k) h = rw (eq-eqb x 0 (h zero (suc-le-suc zero-le))) (zero_all k (λ l b. h (suc l) (suc-le-suc b)))
-
-module _ (ws : List ℕ) (at w : ℕ) where
-  pub not_zero : (k : ℕ) → k < w → (get_or ws (at + k) 0 ≡ 0 → ⊥) → all_zero (take w (drop at ws)) ≡ false
-  not_zero k h n = zero_differ (take w (drop at ws)) k (λ e. n (sym (get_or-take w (drop at ws) k 0 h ∙ get_or-drop at ws k 0) ∙ e))
-
-  pub zero_words : at + w ≤ length ws → ((k : ℕ) → k < w → get_or ws (at + k) 0 ≡ 0) → all_zero (take w (drop at ws)) ≡ true
-  zero_words room z =
-      let long : length (take w (drop at ws)) ≡ w = length-take-le w (drop at ws) (simp length-drop (omega arith)) in
-      zero_all (take w (drop at ws)) (λ k h. let b : k < w = omega arith in get_or-take w (drop at ws) k 0 b ∙ get_or-drop at ws k 0 ∙ z k b)
+-- the x-words of a row, as the code takes them, a part of the buffer
+pub all_zeros : (w i : ℕ) (ws : List ℕ) → list_all (λ x. eqb x 0) (take (i * (2 * w) + w - i * (2 * w)) (drop (i * (2 * w)) ws)) ≡ all_zero (take w (drop (i * (2 * w)) ws))
+all_zeros w i ws = same_zeros _ ∙ ap (λ (n : ℕ). all_zero (take n (drop (i * (2 * w)) ws))) (add-sub_cancel_left (i * (2 * w)) w)
 
 -- ---- one row of the mean
 
@@ -80,6 +70,19 @@ finite_numbers (suc n) cs = tab_finite n (term_at 0 [] cs) ∙ ap (λ (b : Bool)
 pub one_more_finite : (m : ℕ) (cs : List Float) → numbers_finite (m + 1) cs ≡ numbers_finite m cs && is_finite (get_or cs m nan)
 unfolding numbers_finite
 one_more_finite m cs = ap (λ (k : ℕ). numbers_finite k cs) (add-one m)
+
+-- the numbers of the first n rows, one after another
+module _ (n i : ℕ) (cs : List Float) {b : Bool} (there : n ≤ length cs) (e : b ≡ numbers_finite i cs) where
+  pub finite_turn : {f : Bool} → i < length (take n cs) → f ≡ is_finite (get_or (take n cs) i nan) → (b && f) ≡ numbers_finite (i + 1) cs
+  finite_turn {f} h q =
+      let long : length (take n cs) ≡ n = length-take-le n cs there in
+      (λ k. e k && (q ∙ ap is_finite (get_or-take n cs i nan (omega arith))) k) ∙ sym (one_more_finite i cs)
+
+  pub finite_end : i ≤ length (take n cs) → length (take n cs) ≤ i → b ≡ finite_rows n cs
+  finite_end h l =
+      let long : length (take n cs) ≡ n = length-take-le n cs there in
+      let all : i ≡ n = omega arith in
+      e ∙ ap (λ (m : ℕ). numbers_finite m cs) all ∙ sym (finite_numbers n cs)
 
 -- a row that is not there
 pub missing_finite : (n : ℕ) (cs : List Float) → length cs < n → finite_rows n cs ≡ false

@@ -110,7 +110,7 @@ module _ (s i : ℕ) (e : Float) (r : Kept) (ws : List ℕ) (cs : List Float) (x
 -- ---- the public step
 
 module _ (w n : ℕ) (e : Float) {ws : List ℕ} {cs : List Float} where
-  pub truncated_none : n ≡ 0 → Truncated w n e (record { count = 0; dropped = zero64 }) ws ws cs cs
+  pub truncated_none : n ≡ 0 → Truncated w n e (record { count = n; dropped = zero64 }) ws ws cs cs
   unfolding tab kept_of foldl
   truncated_none z =
       let yes = le-leb 0 (rows_in w ws cs) (omega arith) in

@@ -1,143 +1,32 @@
-// A loop over the rows for each gate. In each the gate is a constant, so that the compiler makes of it a loop without a choice among gates: with one loop
-// for all of them a run of many rows takes a sixth longer (docs/SPEED.md). The loops differ in nothing but the gate.
+// The rows through a gate. The gate comes from a closure, each of which is a type of its own: where the closure is a constant, the compiler makes for it
+// a loop without a choice among gates. With one loop for all of them a run of many rows takes a sixth longer (docs/SPEED.md).
 #![tactic(auto, using(crate::proofs::GateRows::midway_start, crate::proofs::GateRows::midway_row, crate::proofs::GateRows::midway_end, crate::proofs::GateRows::through_arm))]
 
 ghost use Rattle.std.specs.Prelude.{◌≤◌};
+ghost use Rattle.words.specs.declared.Gate.{Gate};
 ghost use Rattle.rows.specs.Rows.{rows_in};
 ghost use Rattle.sums.specs.Through.{Through};
 
 use crate::gates::conjugate_row;
 use words::Gate;
 
-fn cx_rows(words: &mut [u64], coeffs: &mut [f64], w: usize, n: usize, a: usize, b: usize)
-    requires { n ≤ rows_in w words.old coeffs.old }
-    ensures { Through Gate.Cx w n a b words.old words.new coeffs.old coeffs.new }
+// Each of the first n rows, through the gate that the closure gives.
+pub(crate) fn gate_rows<G: FnOnce() -> Gate>(
+    words: &mut [u64],
+    coeffs: &mut [f64],
+    w: usize,
+    n: usize,
+    constant: G,
+    a: usize,
+    b: usize,
+)
+    requires callable { G.IsAlwaysCallable constant }
+    requires rows { n ≤ rows_in w words.old coeffs.old }
+    ensures { (g : Gate) × G.post constant g × Through g w n a b words.old words.new coeffs.old coeffs.new }
 {
-    let mut i = 0;
-    while i < n {
-        conjugate_row(words, coeffs, w, i, Gate::Cx, a, b);
-        i += 1;
-    }
-}
-
-fn h_rows(words: &mut [u64], coeffs: &mut [f64], w: usize, n: usize, a: usize, b: usize)
-    requires { n ≤ rows_in w words.old coeffs.old }
-    ensures { Through Gate.H w n a b words.old words.new coeffs.old coeffs.new }
-{
-    let mut i = 0;
-    while i < n {
-        conjugate_row(words, coeffs, w, i, Gate::H, a, b);
-        i += 1;
-    }
-}
-
-fn s_rows(words: &mut [u64], coeffs: &mut [f64], w: usize, n: usize, a: usize, b: usize)
-    requires { n ≤ rows_in w words.old coeffs.old }
-    ensures { Through Gate.S w n a b words.old words.new coeffs.old coeffs.new }
-{
-    let mut i = 0;
-    while i < n {
-        conjugate_row(words, coeffs, w, i, Gate::S, a, b);
-        i += 1;
-    }
-}
-
-fn sdg_rows(words: &mut [u64], coeffs: &mut [f64], w: usize, n: usize, a: usize, b: usize)
-    requires { n ≤ rows_in w words.old coeffs.old }
-    ensures { Through Gate.Sdg w n a b words.old words.new coeffs.old coeffs.new }
-{
-    let mut i = 0;
-    while i < n {
-        conjugate_row(words, coeffs, w, i, Gate::Sdg, a, b);
-        i += 1;
-    }
-}
-
-fn sx_rows(words: &mut [u64], coeffs: &mut [f64], w: usize, n: usize, a: usize, b: usize)
-    requires { n ≤ rows_in w words.old coeffs.old }
-    ensures { Through Gate.Sx w n a b words.old words.new coeffs.old coeffs.new }
-{
-    let mut i = 0;
-    while i < n {
-        conjugate_row(words, coeffs, w, i, Gate::Sx, a, b);
-        i += 1;
-    }
-}
-
-fn sxdg_rows(words: &mut [u64], coeffs: &mut [f64], w: usize, n: usize, a: usize, b: usize)
-    requires { n ≤ rows_in w words.old coeffs.old }
-    ensures { Through Gate.Sxdg w n a b words.old words.new coeffs.old coeffs.new }
-{
-    let mut i = 0;
-    while i < n {
-        conjugate_row(words, coeffs, w, i, Gate::Sxdg, a, b);
-        i += 1;
-    }
-}
-
-fn cz_rows(words: &mut [u64], coeffs: &mut [f64], w: usize, n: usize, a: usize, b: usize)
-    requires { n ≤ rows_in w words.old coeffs.old }
-    ensures { Through Gate.Cz w n a b words.old words.new coeffs.old coeffs.new }
-{
-    let mut i = 0;
-    while i < n {
-        conjugate_row(words, coeffs, w, i, Gate::Cz, a, b);
-        i += 1;
-    }
-}
-
-fn swap_rows(words: &mut [u64], coeffs: &mut [f64], w: usize, n: usize, a: usize, b: usize)
-    requires { n ≤ rows_in w words.old coeffs.old }
-    ensures { Through Gate.Swap w n a b words.old words.new coeffs.old coeffs.new }
-{
-    let mut i = 0;
-    while i < n {
-        conjugate_row(words, coeffs, w, i, Gate::Swap, a, b);
-        i += 1;
-    }
-}
-
-fn id_rows(words: &mut [u64], coeffs: &mut [f64], w: usize, n: usize, a: usize, b: usize)
-    requires { n ≤ rows_in w words.old coeffs.old }
-    ensures { Through Gate.Id w n a b words.old words.new coeffs.old coeffs.new }
-{
-    let mut i = 0;
-    while i < n {
-        conjugate_row(words, coeffs, w, i, Gate::Id, a, b);
-        i += 1;
-    }
-}
-
-fn x_rows(words: &mut [u64], coeffs: &mut [f64], w: usize, n: usize, a: usize, b: usize)
-    requires { n ≤ rows_in w words.old coeffs.old }
-    ensures { Through Gate.X w n a b words.old words.new coeffs.old coeffs.new }
-{
-    let mut i = 0;
-    while i < n {
-        conjugate_row(words, coeffs, w, i, Gate::X, a, b);
-        i += 1;
-    }
-}
-
-fn y_rows(words: &mut [u64], coeffs: &mut [f64], w: usize, n: usize, a: usize, b: usize)
-    requires { n ≤ rows_in w words.old coeffs.old }
-    ensures { Through Gate.Y w n a b words.old words.new coeffs.old coeffs.new }
-{
-    let mut i = 0;
-    while i < n {
-        conjugate_row(words, coeffs, w, i, Gate::Y, a, b);
-        i += 1;
-    }
-}
-
-fn z_rows(words: &mut [u64], coeffs: &mut [f64], w: usize, n: usize, a: usize, b: usize)
-    requires { n ≤ rows_in w words.old coeffs.old }
-    ensures { Through Gate.Z w n a b words.old words.new coeffs.old coeffs.new }
-{
-    let mut i = 0;
-    while i < n {
-        conjugate_row(words, coeffs, w, i, Gate::Z, a, b);
-        i += 1;
+    let gate = constant();
+    for i in 0..n {
+        conjugate_row(words, coeffs, w, i, gate, a, b);
     }
 }
 
@@ -155,17 +44,17 @@ pub(crate) fn conjugate_by_gate(
     ensures { Through gate w n a b words.old words.new coeffs.old coeffs.new }
 {
     match gate {
-        Gate::Cx => cx_rows(words, coeffs, w, n, a, b),
-        Gate::H => h_rows(words, coeffs, w, n, a, b),
-        Gate::S => s_rows(words, coeffs, w, n, a, b),
-        Gate::Sdg => sdg_rows(words, coeffs, w, n, a, b),
-        Gate::Sx => sx_rows(words, coeffs, w, n, a, b),
-        Gate::Sxdg => sxdg_rows(words, coeffs, w, n, a, b),
-        Gate::Cz => cz_rows(words, coeffs, w, n, a, b),
-        Gate::Swap => swap_rows(words, coeffs, w, n, a, b),
-        Gate::Id => id_rows(words, coeffs, w, n, a, b),
-        Gate::X => x_rows(words, coeffs, w, n, a, b),
-        Gate::Y => y_rows(words, coeffs, w, n, a, b),
-        Gate::Z => z_rows(words, coeffs, w, n, a, b),
+        Gate::Cx => gate_rows(words, coeffs, w, n, || Gate::Cx, a, b),
+        Gate::H => gate_rows(words, coeffs, w, n, || Gate::H, a, b),
+        Gate::S => gate_rows(words, coeffs, w, n, || Gate::S, a, b),
+        Gate::Sdg => gate_rows(words, coeffs, w, n, || Gate::Sdg, a, b),
+        Gate::Sx => gate_rows(words, coeffs, w, n, || Gate::Sx, a, b),
+        Gate::Sxdg => gate_rows(words, coeffs, w, n, || Gate::Sxdg, a, b),
+        Gate::Cz => gate_rows(words, coeffs, w, n, || Gate::Cz, a, b),
+        Gate::Swap => gate_rows(words, coeffs, w, n, || Gate::Swap, a, b),
+        Gate::Id => gate_rows(words, coeffs, w, n, || Gate::Id, a, b),
+        Gate::X => gate_rows(words, coeffs, w, n, || Gate::X, a, b),
+        Gate::Y => gate_rows(words, coeffs, w, n, || Gate::Y, a, b),
+        Gate::Z => gate_rows(words, coeffs, w, n, || Gate::Z, a, b),
     }
 }

@@ -18,8 +18,7 @@ fn move_row(words: &mut [u64], coeffs: &mut [f64], size: usize, i: usize, k: usi
 {
     if k < i {
         row::copy_row(words, size, i, k);
-        let v = row::value_at(coeffs, i);
-        row::store_value(coeffs, k, v);
+        coeffs[k] = coeffs[i];
     }
 }
 
@@ -35,19 +34,17 @@ fn keep_row(
     requires { (kept.count ≤ i) × ((i * size + size ≤ length words.old) × (i < length coeffs.old)) }
     ensures { KeptRow size i epsilon kept result words.old words.new coeffs.old coeffs.new }
 {
-    let k = kept.count;
-    let v = row::value_at(coeffs, i);
-    let magnitude = absolute(v);
+    let magnitude = absolute(coeffs[i]);
     if magnitude < epsilon {
         return Kept {
-            count: k,
             dropped: kept.dropped + magnitude,
+            ..kept
         };
     }
-    move_row(words, coeffs, size, i, k);
+    move_row(words, coeffs, size, i, kept.count);
     Kept {
-        count: k + 1,
-        dropped: kept.dropped,
+        count: kept.count + 1,
+        ..kept
     }
 }
 
@@ -61,10 +58,8 @@ fn keep_rows(words: &mut [u64], coeffs: &mut [f64], size: usize, n: usize, epsil
         count: 0,
         dropped: 0.0,
     };
-    let mut i = 0;
-    while i < n {
+    for i in 0..n {
         kept = keep_row(words, coeffs, size, i, kept, epsilon);
-        i += 1;
     }
     kept
 }
@@ -74,20 +69,13 @@ fn keep_rows(words: &mut [u64], coeffs: &mut [f64], size: usize, n: usize, epsil
 pub fn truncate(words: &mut [u64], coeffs: &mut [f64], w: usize, n: usize, epsilon: f64) -> Kept
     ensures { Truncated w n epsilon result words.old words.new coeffs.old coeffs.new }
 {
-    if n == 0 {
-        return Kept {
-            count: 0,
-            dropped: 0.0,
-        };
-    }
-    if row::rows_in(words.len(), coeffs.len(), w) < n {
+    if n == 0 || row::rows_in(words.len(), coeffs.len(), w) < n {
         return Kept {
             count: n,
             dropped: 0.0,
         };
     }
     let kept = keep_rows(words, coeffs, 2 * w, n, epsilon);
-    let count = kept.count;
-    clear_rows(words, coeffs, w, count, n);
+    clear_rows(words, coeffs, w, kept.count, n);
     kept
 }

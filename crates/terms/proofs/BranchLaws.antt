@@ -3,7 +3,7 @@ use mathlib.Core.Path.{◌≡◌, refl, sym, ap, ◌∙◌}
 use mathlib.Core.Logic.{◌⊎◌, inl, inr, ⊎_elim}
 use mathlib.Core.Bool.{Bool, true, false, not, cond, true≢false}
 use mathlib.Core.List.{List, [], ◌∷◌, ◌++◌, map, append_assoc, append-nil}
-use mathlib.Core.Option.{Option, none, some}
+use mathlib.Core.Option as O
 use Prim.Native.Nat.{ℕ, zero, suc, min, ◌≤◌, ◌<◌}
 use native.Mathlib.Nat.{le_refl}
 use native.Mathlib.Omega.{arith}
@@ -15,8 +15,7 @@ use borrow.Author.Tests.{lt-ltb, le-ltb, eq-eqb, ne_eqb}
 use Rattle.numbers.specs.Tests.{is_zero}
 use Rattle.words.specs.Keys.{Key, same_key}
 use Rattle.words.proofs.KeyLaws.{same_key_sym, same_key_eq}
-use Rattle.terms.specs.declared.Found.{Found}
-use Rattle.terms.specs.declared.Found.TheVariants.{At, Nothing}
+use Rattle.std.specs.Prelude.{Option, Some, None}
 use Rattle.terms.specs.Coefficient.{scaled_of}
 use Rattle.terms.specs.Lists.{tab, All}
 use Rattle.terms.specs.Term.{odd_y, Term, term, no_term, Distinct, find}
@@ -31,53 +30,53 @@ use Rattle.terms.proofs.DistinctLaws.{Other, other_key, Apart, apart_of, distinc
 
 -- ---- the first row that has a word, and its coefficient
 
-abbrev pub coeff_of : List Term → Found → Option Float
-coeff_of ts (At j) = some (get_or ts j no_term).coeff
-coeff_of ts Nothing = none
+abbrev pub coeff_of : List Term → Option ℕ → O.Option Float
+coeff_of ts (Some j) = O.some (get_or ts j no_term).coeff
+coeff_of ts None = O.none
 
 pub find_row : (k : Key) (ts : List Term) → find k ts ≡ coeff_of ts (row_of (length ts) k ts)
 unfolding find first
 find_row k [] = refl
 find_row k (t ∷ ts) =
-    (λ i. cond (same_key_sym k t.key i) (some t.coeff) (find_row k ts i))
+    (λ i. cond (same_key_sym k t.key i) (O.some t.coeff) (find_row k ts i))
     ∙ go (same_key t.key k) (row_of (length ts) k ts)
     ∙ ap (coeff_of (t ∷ ts)) (sym (first_cons (λ j. same_key (get_or (t ∷ ts) j no_term).key k) (length ts)))
   where
-    go : (b : Bool) (f : Found) → cond b (some t.coeff) (coeff_of ts f) ≡ coeff_of (t ∷ ts) (or_later b f)
+    go : (b : Bool) (f : Option ℕ) → cond b (O.some t.coeff) (coeff_of ts f) ≡ coeff_of (t ∷ ts) (or_later b f)
     go true f = refl
-    go false (At j) = refl
-    go false Nothing = refl
+    go false (Some j) = refl
+    go false None = refl
 
-pub row_nothing : (k : Key) (ts : List Term) → find k ts ≡ none → row_of (length ts) k ts ≡ Nothing
+pub row_nothing : (k : Key) (ts : List Term) → find k ts ≡ O.none → row_of (length ts) k ts ≡ None
 row_nothing k ts e = go (row_of (length ts) k ts) (sym (find_row k ts) ∙ e)
   where
-    go : (f : Found) → coeff_of ts f ≡ none → f ≡ Nothing
-    go (At j) e = absurd (let z : ◌≡◌ {A = ℕ} 0 1 = cc in omega arith)
-    go Nothing e = refl
+    go : (f : Option ℕ) → coeff_of ts f ≡ O.none → f ≡ None
+    go (Some j) e = absurd (let z : ◌≡◌ {A = ℕ} 0 1 = cc in omega arith)
+    go None e = refl
 
 -- no term has a word that is not found
-pub find_other : (k : Key) (ts : List Term) → find k ts ≡ none → All (Other k) ts
+pub find_other : (k : Key) (ts : List Term) → find k ts ≡ O.none → All (Other k) ts
 find_other k ts e =
     all_of (Other k) ts no_term
     (λ i h q. other_key (get_or ts i no_term).key k (first_nothing (λ j. same_key (get_or ts j no_term).key k) (length ts) (row_nothing k ts e) i h) (sym q))
 
 -- a term whose word is found
 abbrev Held : List Term → Term → Type 0
-Held ts t = (k : Key) → find k ts ≡ none → Other k t
+Held ts t = (k : Key) → find k ts ≡ O.none → Other k t
 
 members : (ts : List Term) → All (Held ts) ts
 members ts = all_of _ ts no_term (λ i h k e. all_at (Other k) ts i no_term h (find_other k ts e))
 
 -- ---- what was found, and two stores
 
-found_cases : (f : Found) → ((p : ℕ) × (f ≡ At p)) ⊎ (f ≡ Nothing)
-found_cases (At p) = inl (p, refl)
-found_cases Nothing = inr refl
+found_cases : (f : Option ℕ) → ((p : ℕ) × (f ≡ Some p)) ⊎ (f ≡ None)
+found_cases (Some p) = inl (p, refl)
+found_cases None = inr refl
 
-at_not_none : (f : Found) (j : ℕ) → f ≡ At j → f ≡ Nothing → ⊥
+at_not_none : (f : Option ℕ) (j : ℕ) → f ≡ Some j → f ≡ None → ⊥
 at_not_none f j a b = let z : ◌≡◌ {A = ℕ} 0 1 = cc in omega arith
 
-at_inj : (f : Found) (p q : ℕ) → f ≡ At p → f ≡ At q → p ≡ q
+at_inj : (f : Option ℕ) (p q : ℕ) → f ≡ Some p → f ≡ Some q → p ≡ q
 at_inj f p q a b = cc
 
 -- g is f but for a at i and b at p
@@ -102,19 +101,19 @@ pub record Paired (w : ℕ) (met : Key → Bool) (partner : Key → Key) (k : Ke
 module _ (w : ℕ) (met : Key → Bool) (partner : Key → Key) (sin cos : Float) where
   -- a row keeps its word, or has its partner's where no term had it and the cosine is 0
   abbrev pub TurnedKey : List Term → Term → Term → Type 0
-  TurnedKey old t u = (u.key ≡ t.key) ⊎ ((is_zero cos ≡ true) × ((find (partner t.key) old ≡ none) × (u.key ≡ partner t.key)))
+  TurnedKey old t u = (u.key ≡ t.key) ⊎ ((is_zero cos ≡ true) × ((find (partner t.key) old ≡ O.none) × (u.key ≡ partner t.key)))
 
   pub turned_key : (old : List Term) (t : Term) → TurnedKey old t (turned_row w met partner sin cos old t)
   turned_key old t = row_cases w met partner sin cos old t (λ u l. TurnedKey old t u) (λ m. inl refl) (λ d m e. inl refl) (λ m e z. inr (z, (e, refl))) (λ m e z. inl refl)
 
   -- what a row appends: nothing, or its partner's word where no term had it and the cosine is not 0
   pub appended_cases : (p : List Term → Type 0) (old : List Term) (t : Term) → p []
-      → (is_zero cos ≡ false → find (partner t.key) old ≡ none → p (flipped_term w met partner sin cos t ∷ []))
+      → (is_zero cos ≡ false → find (partner t.key) old ≡ O.none → p (flipped_term w met partner sin cos t ∷ []))
       → p (appended_of w met partner sin cos old t)
   appended_cases p old t x y = row_cases w met partner sin cos old t (λ u l. p l) (λ m. x) (λ d m e. x) (λ m e z. x) (λ m e z. y z e)
 
   pub appended_all : (p : Term → Type 0) (old ts : List Term)
-      → All (λ t. is_zero cos ≡ false → find (partner t.key) old ≡ none → p (flipped_term w met partner sin cos t)) ts
+      → All (λ t. is_zero cos ≡ false → find (partner t.key) old ≡ O.none → p (flipped_term w met partner sin cos t)) ts
       → All p (appended_rows w met partner sin cos old ts)
   unfolding appended_rows
   appended_all p old [] x = tt
@@ -159,7 +158,7 @@ module _ (w : ℕ) (met : Key → Bool) (partner : Key → Key) (sin cos : Float
       (λ t x. appended_all (Other (turned_row w met partner sin cos ts t).key) ts ts (all_every _ ts (λ s. new t s x))) (members ts)))
     where
       -- no row has an appended word
-      new : (t s : Term) → Held ts t → is_zero cos ≡ false → find (partner s.key) ts ≡ none
+      new : (t s : Term) → Held ts t → is_zero cos ≡ false → find (partner s.key) ts ≡ O.none
           → Other (turned_row w met partner sin cos ts t).key (flipped_term w met partner sin cos s)
       new t s x z e q = ⊎_elim (λ k. x (partner s.key) e (sym q ∙ k)) (λ k. true≢false (sym k.0 ∙ z)) (turned_key ts t)
 
@@ -190,7 +189,7 @@ module _ (w : ℕ) (met : Key → Bool) (partner : Key → Key) (sin cos : Float
   word j = (old j).key
 
   -- the row of the partner of row j
-  unfoldable mate : ℕ → Found
+  unfoldable mate : ℕ → Option ℕ
   mate j = row_of count (partner (word j)) ts
 
   paired_at : (j : ℕ) → j < count → Paired w met partner (word j)
@@ -200,23 +199,23 @@ module _ (w : ℕ) (met : Key → Bool) (partner : Key → Key) (sin cos : Float
   unfolding Distinct
   one_row = differ
 
-  mate_at : (j p : ℕ) → mate j ≡ At p → (p < count) × (word p ≡ partner (word j))
+  mate_at : (j p : ℕ) → mate j ≡ Some p → (p < count) × (word p ≡ partner (word j))
   unfolding mate
   mate_at j p e = let r = first_at (λ l. same_key (word l) (partner (word j))) count p e in (r.0, same_key_eq (word p) (partner (word j)) r.1)
 
-  mate_none : (j l : ℕ) → l < count → mate j ≡ Nothing → word l ≡ partner (word j) → ⊥
+  mate_none : (j l : ℕ) → l < count → mate j ≡ None → word l ≡ partner (word j) → ⊥
   unfolding mate
   mate_none j l h e = other_key (word l) (partner (word j)) (first_nothing (λ l. same_key (word l) (partner (word j))) count e l h)
 
-  mate_back : (j p : ℕ) → j < count → mate j ≡ At p → mate p ≡ At j
+  mate_back : (j p : ℕ) → j < count → mate j ≡ Some p → mate p ≡ Some j
   mate_back j p h e =
       let its : word j ≡ partner (word p) = sym (ap partner (mate_at j p e).1 ∙ (paired_at j h).back) in
       ⊎_elim
-      (λ (r : (l : ℕ) × (mate p ≡ At l)). let s = mate_at p r.0 r.1 in r.1 ∙ ap At (one_row r.0 j s.0 h (s.1 ∙ sym its)))
-      (λ (q : mate p ≡ Nothing). absurd (mate_none p j h q its))
+      (λ (r : (l : ℕ) × (mate p ≡ Some l)). let s = mate_at p r.0 r.1 in r.1 ∙ ap Some (one_row r.0 j s.0 h (s.1 ∙ sym its)))
+      (λ (q : mate p ≡ None). absurd (mate_none p j h q its))
       (found_cases (mate p))
 
-  mate_self : (j : ℕ) → j < count → mate j ≡ At j → ⊥
+  mate_self : (j : ℕ) → j < count → mate j ≡ Some j → ⊥
   mate_self j h e = (paired_at j h).moves (sym (mate_at j j e).1)
 
   -- ---- the rows when i of them have had their turn: a pair is done at the turn of the earlier of its rows
@@ -229,21 +228,21 @@ module _ (w : ℕ) (met : Key → Bool) (partner : Key → Key) (sin cos : Float
   unfolding turned
   turned_unmet j u = rw u
 
-  turned_met : (j : ℕ) (f : Found) → met (word j) ≡ true → mate j ≡ f → turned j ≡ turned_term w met partner sin cos (old j) (coeff_of ts f)
+  turned_met : (j : ℕ) (f : Option ℕ) → met (word j) ≡ true → mate j ≡ f → turned j ≡ turned_term w met partner sin cos (old j) (coeff_of ts f)
   unfolding turned mate
   turned_met j f m e =
       ap (λ (b : Bool). cond b (turned_term w met partner sin cos (old j) (find (partner (word j)) ts)) (old j)) m
       ∙ ap (turned_term w met partner sin cos (old j)) (find_row (partner (word j)) ts ∙ ap (coeff_of ts) e)
 
   -- the row at whose turn row j is done
-  abbrev lead_of : ℕ → Found → ℕ
-  lead_of j (At p) = min j p
-  lead_of j Nothing = j
+  abbrev lead_of : ℕ → Option ℕ → ℕ
+  lead_of j (Some p) = min j p
+  lead_of j None = j
 
   unfoldable lead : ℕ → ℕ
   lead j = lead_of j (mate j)
 
-  lead_is : (j : ℕ) (f : Found) → mate j ≡ f → lead j ≡ lead_of j f
+  lead_is : (j : ℕ) (f : Option ℕ) → mate j ≡ f → lead j ≡ lead_of j f
   unfolding lead
   lead_is j f e = ap (lead_of j) e
 
@@ -251,16 +250,16 @@ module _ (w : ℕ) (met : Key → Bool) (partner : Key → Key) (sin cos : Float
   unfolding lead
   lead_le j = go (mate j)
     where
-      go : (f : Found) → lead_of j f ≤ j
-      go (At p) = omega arith
-      go Nothing = omega arith
+      go : (f : Option ℕ) → lead_of j f ≤ j
+      go (Some p) = omega arith
+      go None = omega arith
 
-  lead_row : (i j : ℕ) → lead j ≡ i → (j ≡ i) ⊎ (mate j ≡ At i)
+  lead_row : (i j : ℕ) → lead j ≡ i → (j ≡ i) ⊎ (mate j ≡ Some i)
   lead_row i j e = go (mate j) refl
     where
-      go : (f : Found) → mate j ≡ f → (j ≡ i) ⊎ (mate j ≡ At i)
-      go (At p) q = let l = lead_is j (At p) q in ⊎_elim (λ h. inl (omega arith)) (λ h. inr (q ∙ ap At (omega arith))) (lt_or_le j p)
-      go Nothing q = inl (sym (lead_is j Nothing q) ∙ e)
+      go : (f : Option ℕ) → mate j ≡ f → (j ≡ i) ⊎ (mate j ≡ Some i)
+      go (Some p) q = let l = lead_is j (Some p) q in ⊎_elim (λ h. inl (omega arith)) (λ h. inr (q ∙ ap Some (omega arith))) (lt_or_le j p)
+      go None q = inl (sym (lead_is j None q) ∙ e)
 
   -- row j when i rows have had their turn
   unfoldable row : ℕ → ℕ → Term
@@ -284,14 +283,14 @@ module _ (w : ℕ) (met : Key → Bool) (partner : Key → Key) (sin cos : Float
   row_unmet i j u = ⊎_elim (λ (h : lead j < i). row_done i j h ∙ turned_unmet j u) (λ (h : i ≤ lead j). row_old i j h) (lt_or_le (lead j) i)
 
   -- a row keeps its word but for one that is done, has no partner, and became it
-  row_key : (i j : ℕ) → ((row i j).key ≡ word j) ⊎ ((mate j ≡ Nothing) × ((j < i) × ((row i j).key ≡ partner (word j))))
+  row_key : (i j : ℕ) → ((row i j).key ≡ word j) ⊎ ((mate j ≡ None) × ((j < i) × ((row i j).key ≡ partner (word j))))
   unfolding mate turned
   row_key i j = ⊎_elim
       (λ (h : lead j < i).
       let same = ap (λ (t : Term). t.key) (row_done i j h) in
       ⊎_elim
       (λ k. inl (same ∙ k))
-      (λ k. let q = row_nothing (partner (word j)) ts k.1.0 in let l = lead_is j Nothing q in inr (q, (omega arith, same ∙ k.1.1)))
+      (λ k. let q = row_nothing (partner (word j)) ts k.1.0 in let l = lead_is j None q in inr (q, (omega arith, same ∙ k.1.1)))
       (turned_key w met partner sin cos ts (old j)))
       (λ (h : i ≤ lead j). inl (ap (λ (t : Term). t.key) (row_old i j h)))
       (lt_or_le (lead j) i)
@@ -321,7 +320,7 @@ module _ (w : ℕ) (met : Key → Bool) (partner : Key → Key) (sin cos : Float
   unfoldable state : ℕ → List Term
   state i = tab count (row i) ++ appended i
 
-  appended_suc : (i : ℕ) → i < count → (b : Bool) (f : Found) → met (word i) ≡ b → mate i ≡ f → appended (suc i) ≡ appended i ++ cond b (appended_term w met partner sin cos (old i) (coeff_of ts f)) []
+  appended_suc : (i : ℕ) → i < count → (b : Bool) (f : Option ℕ) → met (word i) ≡ b → mate i ≡ f → appended (suc i) ≡ appended i ++ cond b (appended_term w met partner sin cos (old i) (coeff_of ts f)) []
   unfolding appended mate appended_rows
   appended_suc i h b f m e =
       ap (appended_rows w met partner sin cos ts) (take-suc ts i no_term h)
@@ -359,25 +358,25 @@ module _ (w : ℕ) (met : Key → Bool) (partner : Key → Key) (sin cos : Float
   step_unmet i h u = stays i (λ j l e.
       let v : met (word j) ≡ false = ⊎_elim
       (λ (q : j ≡ i). ap (λ (l : ℕ). met (word l)) q ∙ u)
-      (λ (q : mate j ≡ At i). sym (paired_at j l).keeps ∙ ap met (sym (mate_at j i q).1) ∙ u)
+      (λ (q : mate j ≡ Some i). sym (paired_at j l).keeps ∙ ap met (sym (mate_at j i q).1) ∙ u)
       (lead_row i j e) in
       row_unmet i j v ∙ sym (row_unmet (suc i) j v))
 
   -- a row without a partner is the only one done at its turn
-  module _ (i : ℕ) (h : i < count) (m : met (word i) ≡ true) (e : mate i ≡ Nothing) where
+  module _ (i : ℕ) (h : i < count) (m : met (word i) ≡ true) (e : mate i ≡ None) where
     own : get_or (state i) i no_term ≡ old i
-    own = let l = lead_is i Nothing e in state_at i i h ∙ row_old i i (omega arith)
+    own = let l = lead_is i None e in state_at i i h ∙ row_old i i (omega arith)
 
-    front_set : (t : Term) → turned_term w met partner sin cos (old i) none ≡ t → set (state i) i t ≡ tab count (row (suc i)) ++ appended i
+    front_set : (t : Term) → turned_term w met partner sin cos (old i) O.none ≡ t → set (state i) i t ≡ tab count (row (suc i)) ++ appended i
     unfolding state
     front_set t q =
-        let l = lead_is i Nothing e in
+        let l = lead_is i None e in
         set-append_left (tab count (row i)) (appended i) i t (in_front i i h)
         ∙ ap (λ (l : List Term). l ++ appended i)
-        (sym (tab_set count (row i) (row (suc i)) i t h (row_done (suc i) i (omega arith) ∙ turned_met i Nothing m e ∙ q)
-        (λ j l d. sym (row_keep i j (λ q. ⊎_elim d (λ (a : mate j ≡ At i). at_not_none (mate i) j (mate_back j i l a) e) (lead_row i j q))))))
+        (sym (tab_set count (row i) (row (suc i)) i t h (row_done (suc i) i (omega arith) ∙ turned_met i None m e ∙ q)
+        (λ j l d. sym (row_keep i j (λ q. ⊎_elim d (λ (a : mate j ≡ Some i). at_not_none (mate i) j (mate_back j i l a) e) (lead_row i j q))))))
 
-    step_lone : branch_lone w met partner sin cos i (state i) ≡ tab count (row (suc i)) ++ (appended i ++ appended_term w met partner sin cos (old i) none)
+    step_lone : branch_lone w met partner sin cos i (state i) ≡ tab count (row (suc i)) ++ (appended i ++ appended_term w met partner sin cos (old i) O.none)
     step_lone = ⊎_elim
         (λ (z : is_zero cos ≡ true).
         rw z (ap (λ (t : Term). set (state i) i (flipped_term w met partner sin cos t)) own ∙ front_set _ (rw z) ∙ ap (λ (l : List Term). tab count (row (suc i)) ++ l) (sym (append-nil (appended i)))))
@@ -388,7 +387,7 @@ module _ (w : ℕ) (met : Key → Bool) (partner : Key → Key) (sin cos : Float
         (bool_cases (is_zero cos))
 
   -- a row with a partner
-  module _ (i p : ℕ) (h : i < count) (m : met (word i) ≡ true) (e : mate i ≡ At p) where
+  module _ (i p : ℕ) (h : i < count) (m : met (word i) ≡ true) (e : mate i ≡ Some p) where
     abbrev mixed_at : ℕ → ℕ → Term
     mixed_at i p = term (word i) (mixed (odd_y w (word i)) sin cos (old i).coeff (old p).coeff)
 
@@ -397,16 +396,16 @@ module _ (w : ℕ) (met : Key → Bool) (partner : Key → Key) (sin cos : Float
     unfolding state
     pair_first lt =
         let hp : p < count = (mate_at i p e).0 in
-        let eb : mate p ≡ At i = mate_back i p h e in
+        let eb : mate p ≡ Some i = mate_back i p h e in
         let mp : met (word p) ≡ true = ap met (mate_at i p e).1 ∙ (paired_at i h).keeps ∙ m in
-        let li = lead_is i (At p) e in
-        let lp = lead_is p (At i) eb in
+        let li = lead_is i (Some p) e in
+        let lp = lead_is p (Some i) eb in
         let own : get_or (state i) i no_term ≡ old i = state_at i i h ∙ row_old i i (omega arith) in
         let its : get_or (state i) p no_term ≡ old p = state_at i p hp ∙ row_old i p (omega arith) in
         let rows : tab count (row (suc i)) ≡ set (set (tab count (row i)) i (mixed_at i p)) p (mixed_at p i) =
         tab_set2 count (row i) (row (suc i)) i p (mixed_at i p) (mixed_at p i) h hp (λ q. omega arith)
-        (row_done (suc i) i (omega arith) ∙ turned_met i (At p) m e) (row_done (suc i) p (omega arith) ∙ turned_met p (At i) mp eb)
-        (λ j l d b. sym (row_keep i j (λ q. ⊎_elim d (λ (a : mate j ≡ At i). b (at_inj (mate i) j p (mate_back j i l a) e)) (lead_row i j q)))) in
+        (row_done (suc i) i (omega arith) ∙ turned_met i (Some p) m e) (row_done (suc i) p (omega arith) ∙ turned_met p (Some i) mp eb)
+        (λ j l d b. sym (row_keep i j (λ q. ⊎_elim d (λ (a : mate j ≡ Some i). b (at_inj (mate i) j p (mate_back j i l a) e)) (lead_row i j q)))) in
         rw (lt-ltb i p lt)
         ((λ k. set (set (state i) i (term (own k).key (mixed (odd_y w (own k).key) sin cos (own k).coeff (its k).coeff))) p (term (its k).key (mixed (not (odd_y w (own k).key)) sin cos (its k).coeff (own k).coeff)))
         ∙ ap (λ (o : Bool). set (set (state i) i (mixed_at i p)) p (term (word p) (mixed o sin cos (old p).coeff (old i).coeff))) (sym (ap (odd_y w) (mate_at i p e).1 ∙ (paired_at i h).other m))
@@ -417,10 +416,10 @@ module _ (w : ℕ) (met : Key → Bool) (partner : Key → Key) (sin cos : Float
     -- the later: no row is done at its turn
     pair_later : p ≤ i → branch_pair w met partner sin cos i p (state i) ≡ tab count (row (suc i)) ++ (appended i ++ [])
     pair_later le =
-        let d : p ≡ i → ⊥ = λ q. mate_self i h (e ∙ ap At q) in
+        let d : p ≡ i → ⊥ = λ q. mate_self i h (e ∙ ap Some q) in
         rw (le-ltb i p le) (stays i (λ j l q. absurd (⊎_elim
-        (λ (a : j ≡ i). let s = lead_is j (At p) (ap mate a ∙ e) in d (omega arith))
-        (λ (a : mate j ≡ At i). let s = lead_is j (At i) a in let b = at_inj (mate i) j p (mate_back j i l a) e in d (omega arith))
+        (λ (a : j ≡ i). let s = lead_is j (Some p) (ap mate a ∙ e) in d (omega arith))
+        (λ (a : mate j ≡ Some i). let s = lead_is j (Some i) a in let b = at_inj (mate i) j p (mate_back j i l a) e in d (omega arith))
         (lead_row i j q))))
 
     step_pair : branch_pair w met partner sin cos i p (state i) ≡ tab count (row (suc i)) ++ (appended i ++ [])
@@ -428,11 +427,11 @@ module _ (w : ℕ) (met : Key → Bool) (partner : Key → Key) (sin cos : Float
 
   -- ---- all of them
 
-  step_cases : (i : ℕ) → i < count → (b : Bool) (f : Found) → met (word i) ≡ b → mate i ≡ f
+  step_cases : (i : ℕ) → i < count → (b : Bool) (f : Option ℕ) → met (word i) ≡ b → mate i ≡ f
       → cond b (branch_by w met partner sin cos i (state i) f) (state i) ≡ tab count (row (suc i)) ++ (appended i ++ cond b (appended_term w met partner sin cos (old i) (coeff_of ts f)) [])
   step_cases i h false f m e = step_unmet i h m
-  step_cases i h true Nothing m e = step_lone i h m e
-  step_cases i h true (At p) m e = step_pair i p h m e
+  step_cases i h true None m e = step_lone i h m e
+  step_cases i h true (Some p) m e = step_pair i p h m e
 
   step : (i : ℕ) → i < count → branch_row w met partner sin cos count i (state i) ≡ state (suc i)
   unfolding state

@@ -1,5 +1,5 @@
 -- The targets of a step, and "how many terms, before it acted, had a letter on at least one of its targets".
-use Rattle.std.specs.Prelude.{ℕ, ◌+◌, ◌/◌, Bool, true, false, cond, ◌&&◌, ◌||◌, List, [], ◌∷◌, ltb}
+use Rattle.std.specs.Prelude.{ℕ, ◌+◌, ◌/◌, Bool, true, false, cond, ◌&&◌, ◌||◌, List, [], ◌∷◌, ltb, Option, None, Some}
 use Rattle.words.specs.declared.Gate.{Gate}
 use Rattle.words.specs.Keys.{Key, has_letter}
 use Rattle.words.specs.Gates.{has_two_targets}
@@ -13,6 +13,11 @@ use Rattle.terms.specs.Term.{Term}
 -- one target, or two
 abbrev pub one_or_two : Bool → ℕ → ℕ → List ℕ
 one_or_two two a b = cond two (a ∷ b ∷ []) (a ∷ [])
+
+-- the targets of a step: one, and a second where there is one
+abbrev pub targets : ℕ → Option ℕ → List ℕ
+targets a None = a ∷ []
+targets a (Some b) = a ∷ b ∷ []
 
 -- of a gate, a rotation and a channel
 abbrev pub gate_targets : Gate → ℕ → ℕ → List ℕ

@@ -24,6 +24,7 @@ fn keep(gamma: f64) -> f64
     at_least_zero(1.0 - gamma)
 }
 
+#[tactic(auto, unfolding(crate::specs::Channel::pauli_action))]
 fn pauli_action(px: f64, py: f64, pz: f64) -> ChannelAction
     ensures { result ≡ pauli_action px py pz }
 {
@@ -31,6 +32,7 @@ fn pauli_action(px: f64, py: f64, pz: f64) -> ChannelAction
     local_action(pi + px - py - pz, pi + py - px - pz, pi + pz - px - py, 0.0)
 }
 
+#[tactic(auto, unfolding(crate::specs::Channel::depol_action))]
 fn depolarizing_action(p: f64) -> ChannelAction
     ensures { result ≡ depol_action p }
 {
@@ -38,6 +40,7 @@ fn depolarizing_action(p: f64) -> ChannelAction
     local_action(lambda, lambda, lambda, 0.0)
 }
 
+#[tactic(auto, unfolding(crate::specs::Channel::phase_action))]
 fn phase_action(gamma: f64) -> ChannelAction
     ensures { result ≡ phase_action gamma }
 {
@@ -45,6 +48,7 @@ fn phase_action(gamma: f64) -> ChannelAction
     local_action(kept, kept, 1.0, 0.0)
 }
 
+#[tactic(auto, unfolding(crate::specs::Channel::damp_action))]
 fn damping_action(gamma: f64) -> ChannelAction
     ensures { result ≡ damp_action gamma }
 {
@@ -53,6 +57,7 @@ fn damping_action(gamma: f64) -> ChannelAction
     local_action(root, root, kept, gamma)
 }
 
+#[tactic(auto, unfolding(crate::specs::Channel::thermal_action))]
 fn thermal_action(gad: f64, gpd: f64, excited: f64) -> ChannelAction
     ensures { result ≡ thermal_action gad gpd excited }
 {
@@ -62,6 +67,7 @@ fn thermal_action(gad: f64, gpd: f64, excited: f64) -> ChannelAction
     local_action(lambda, lambda, kept, gad * (1.0 - 2.0 * excited))
 }
 
+#[tactic(auto, unfolding(crate::specs::Channel::depol2_action))]
 fn depolarizing2_action(p: f64) -> ChannelAction
     ensures { result ≡ depol2_action p }
 {
@@ -74,6 +80,7 @@ fn depolarizing2_action(p: f64) -> ChannelAction
 }
 
 // The multipliers of a channel, and what of Z goes to the identity.
+#[tactic(auto, unfolding(crate::specs::Channel::action_of))]
 pub fn channel_action(channel: NoiseChannel) -> ChannelAction
     ensures { result ≡ action_of channel }
 {

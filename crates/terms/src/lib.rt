@@ -1,15 +1,11 @@
 // Terms of a weighted Pauli sum: the one real of a coefficient, the parity of a word, and what a noise channel does to the letters of a word.
 #![tactic(auto)]
 
+ghost use Rattle.std.specs.Prelude.{◌≡◌};
+ghost use Rattle.terms.specs.Met.{acts_on_two};
+
 pub mod channels;
 pub mod number;
-
-// What a search over rows finds.
-#[derive(Clone, Copy)]
-pub enum Found {
-    At(usize),
-    Nothing,
-}
 
 // A rotation's targets: rz, p, t and tdg have one, rzz has two.
 #[derive(Clone, Copy)]
@@ -36,6 +32,15 @@ pub enum NoiseChannel {
 pub enum ChannelKind {
     Local,
     Depolarizing2q,
+}
+
+impl ChannelKind {
+    // Whether a channel of the kind has two targets.
+    pub fn acts_on_two(self) -> bool
+        ensures { result ≡ acts_on_two self }
+    {
+        matches!(self, ChannelKind::Depolarizing2q)
+    }
 }
 
 // A channel's kind, its multipliers for X, Y and Z (for two targets each is the same), and what of Z goes to the identity.

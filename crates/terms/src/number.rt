@@ -20,6 +20,7 @@ pub fn plus(v: f64, u: f64) -> f64
 
 // The sine, negated where the Y letters of a word are odd in number. It is chosen by its place: a branch on the parity would often be
 // predicted wrongly.
+#[tactic(auto, using(crate::proofs::SignLaws::sine_at))]
 fn signed_sine(odd: usize, sin: f64) -> f64
     ensures { result ≡ signed (is_odd odd) sin }
 {
@@ -28,6 +29,7 @@ fn signed_sine(odd: usize, sin: f64) -> f64
 }
 
 // The flip of a number, for a rotation's partner; `odd` is the number of Y letters of its word, or that modulo 2.
+#[tactic(auto, using(crate::proofs::SignLaws::flip_by_sine))]
 pub fn flipped(v: f64, odd: usize, sin: f64) -> f64
     ensures { result ≡ flipped_of (is_odd odd) sin v }
 {
@@ -38,18 +40,5 @@ pub fn flipped(v: f64, odd: usize, sin: f64) -> f64
 pub fn asks_word(gate: Gate) -> bool
     ensures { result ≡ asks_word gate }
 {
-    match gate {
-        Gate::Cx => false,
-        Gate::H => false,
-        Gate::S => true,
-        Gate::Sdg => true,
-        Gate::Sx => true,
-        Gate::Sxdg => true,
-        Gate::Id => false,
-        Gate::X => false,
-        Gate::Y => false,
-        Gate::Z => false,
-        Gate::Cz => false,
-        Gate::Swap => false,
-    }
+    matches!(gate, Gate::S | Gate::Sdg | Gate::Sx | Gate::Sxdg)
 }

@@ -10,7 +10,7 @@ fn hex_digit(b: u8) -> Option<usize>
 {
     match b {
         b'0'..=b'9' => Some((b - b'0') as usize),
-        b'a'..=b'f' => Some((b - 87) as usize),
+        b'a'..=b'f' => Some((b - b'a' + 10) as usize),
         _ => None,
     }
 }

@@ -21,6 +21,10 @@ use Rattle.terms.specs.Term.{Term, OnWidth, Distinct, conjugated}
 use Rattle.terms.specs.Rotation.{met_by, partner_by, on_key}
 use Rattle.terms.specs.Channel.{action_of, channeled}
 use Rattle.terms.specs.declared.ChannelKind.{ChannelKind}
+use Rattle.std.specs.Bool.{then_some}
+use Rattle.std.specs.declared.option.Option.{Option}
+use Rattle.rows.proofs.LetterRows.{targets_of}
+use Rattle.terms.specs.Met as M
 use Rattle.terms.specs.Met.{gate_targets, axis_targets, acts_on_two, kind_targets, in_words, met_terms}
 use Rattle.terms.proofs.AllLaws.{all_imp}
 use Rattle.terms.proofs.AxisLaws.{axis_width}
@@ -83,10 +87,12 @@ module _ (w n : ℕ) (ws : List ℕ) (cs : List Float) where
           (all_imp (OnWidth w) (Keyed (2 * w)) us (λ t x. x.long) o)))
 
     module _ {r : Step} {ws' : List ℕ} {cs' : List Float} where
-      pub gate_applied : (g : Gate) (a b : ℕ) → on_words w (gate_targets g a b) ≡ true
+      pub gate_applied : (g : Gate) (a b : ℕ) {o : Option ℕ} {on : Bool} → o ≡ then_some (has_two_targets g) b → on ≡ on_words w (M.targets a o) → on ≡ true
           → (r.met ≡ met_in w (gate_targets g a b) n ws cs) × Stepped w n n n (map (conjugated w g a b) here) r.count ws ws' cs cs'
           → Applied w n (gate_targets g a b) (map (conjugated w g a b) here) r ws ws' cs cs'
-      gate_applied g a b on S = stepped (gate_targets g a b) _ on (words_in w (has_two_targets g) a b on) S.0 S.1 (length-map here (conjugated w g a b) ∙ long) (conjugated_width g w a b here here_width)
+      gate_applied g a b eo e h S =
+          let on : on_words w (gate_targets g a b) ≡ true = ap (on_words w) (sym (targets_of (has_two_targets g) a b eo)) ∙ sym e ∙ h in
+          stepped (gate_targets g a b) _ on (words_in w (has_two_targets g) a b on) S.0 S.1 (length-map here (conjugated w g a b) ∙ long) (conjugated_width g w a b here here_width)
 
       pub axis_applied : (x : Axis) (sin cos : Float) {on : Bool} → on ≡ on_words w (axis_targets x) → on ≡ true → Distinct here
           → (r.met ≡ met_in w (axis_targets x) n ws cs) × Rotated w n x sin cos r.count ws ws' cs cs'
@@ -94,21 +100,21 @@ module _ (w n : ℕ) (ws : List ℕ) (cs : List Float) where
       axis_applied x sin cos eo h d R = let on = sym eo ∙ h in grown (axis_targets x) _ on (axis_words w x on) R.0 (R.1.from_old (axis_key w x on) d)
           (let c = rotated_count w (met_by x) (partner_by w x) sin cos here in omega (arith, long, c)) (axis_width w x sin cos here here_width)
 
-      pub channel_applied : (a b : ℕ) (c : NoiseChannel) (t : ChannelAction) {two on : Bool} → t ≡ action_of c → two ≡ acts_on_two t.kind → on ≡ on_words w (cond two (a ∷ b ∷ []) (a ∷ [])) → on ≡ true
+      pub channel_applied : (a b : ℕ) (c : NoiseChannel) (t : ChannelAction) {o : Option ℕ} {on : Bool} → t ≡ action_of c → o ≡ then_some (acts_on_two t.kind) b → on ≡ on_words w (M.targets a o) → on ≡ true
           → (r.met ≡ met_in w (kind_targets t.kind a b) n ws cs) × Grown w n (channeled w a b t here) r.count ws ws' cs cs'
           → Applied w n (kind_targets (action_of c).kind a b) (noisy w a b c here) r ws ws' cs cs'
       channel_applied a b c t e et eo h G =
           let qs = kind_targets t.kind a b in
-          let on : on_words w qs ≡ true = ap (λ (x : Bool). on_words w (cond x (a ∷ b ∷ []) (a ∷ []))) (sym et) ∙ sym eo ∙ h in
+          let on : on_words w qs ≡ true = ap (on_words w) (sym (targets_of (acts_on_two t.kind) a b et)) ∙ sym eo ∙ h in
           subst (λ (u : ChannelAction). Applied w n (kind_targets u.kind a b) (channeled w a b u here) r ws ws' cs cs') e
           (grown qs _ on (words_in w (acts_on_two t.kind) a b on) G.0 G.1 (let s = channeled_count w a b t here in omega (arith, long, s)) (channeled_width w a b t here here_width))
 
   -- a channel that the words do not have the targets of
-  pub channel_skipped : (a b : ℕ) (c : NoiseChannel) (t : ChannelAction) {two on : Bool} → t ≡ action_of c → two ≡ acts_on_two t.kind → on ≡ on_words w (cond two (a ∷ b ∷ []) (a ∷ [])) → on ≡ false
+  pub channel_skipped : (a b : ℕ) (c : NoiseChannel) (t : ChannelAction) {o : Option ℕ} {on : Bool} → t ≡ action_of c → o ≡ then_some (acts_on_two t.kind) b → on ≡ on_words w (M.targets a o) → on ≡ false
       → Applied w n (kind_targets (action_of c).kind a b) (noisy w a b c here) (record { count = n; met = 0 }) ws ws cs cs
   channel_skipped a b c t e et eo h =
       skipped (kind_targets (action_of c).kind a b) (noisy w a b c here)
-      (ap (λ (u : ChannelAction). on_words w (kind_targets u.kind a b)) (sym e) ∙ ap (λ (x : Bool). on_words w (cond x (a ∷ b ∷ []) (a ∷ []))) (sym et) ∙ sym eo ∙ h)
+      (ap (λ (u : ChannelAction). on_words w (kind_targets u.kind a b)) (sym e) ∙ ap (on_words w) (sym (targets_of (acts_on_two t.kind) a b et)) ∙ sym eo ∙ h)
 
   -- the axis of the case that the code is in
   pub axis_told : (x y : Axis) (sin cos : Float) {r : Step} {ws' : List ℕ} {cs' : List Float} → y ≡ x → Applied w n (axis_targets x) (turned w x sin cos here) r ws ws' cs cs'

@@ -1,16 +1,18 @@
 // What each op does to the terms in the rows.
 ghost use Rattle.std.specs.Prelude.{◌≡◌, map, ◌*◌, ◌≤◌};
 ghost use Rattle.numbers.specs.Constants.{sine_t, cosine_t};
-ghost use Rattle.terms.specs.Met.{gate_targets, axis_targets, acts_on_two, kind_targets};
+ghost use Rattle.ops.specs.Ops.{on_words};
+ghost use Rattle.terms.specs.Met.{gate_targets, axis_targets, kind_targets};
 ghost use Rattle.terms.specs.Term.{Distinct, conjugated};
 ghost use Rattle.terms.specs.Channel.{action_of};
 ghost use Rattle.rows.specs.Rows.{terms_in, rows_in, Holds};
 ghost use Rattle.dynamics.specs.Acts.{turned, noisy, act, met};
 ghost use Rattle.turns.specs.Told.{Applied};
 
+use branches::rotation::{Rotation, branch_rotation};
 use ops::{Op, targets};
 use rows::Step;
-use terms::{Axis, ChannelKind, NoiseChannel as Noise};
+use terms::{Axis, NoiseChannel as Noise};
 use words::Gate;
 use words::gates::has_two_targets;
 
@@ -28,11 +30,22 @@ fn apply_gate(
     ensures { Applied w n (gate_targets gate a b) (map (conjugated w gate a b) (terms_in (2 * w) n words.old coeffs.old)) result
         words.old words.new coeffs.old coeffs.new }
 {
-    if targets::has_targets(has_two_targets(gate), w, a, b) {
+    let second = has_two_targets(gate).then_some(b);
+    if targets::has_targets(w, a, second) {
         let met = sums::gates::conjugate_all_backward_phased(words, coeffs, w, n, gate, a, b);
         return Step { count: n, met };
     }
     Step { count: n, met: 0 }
+}
+
+// Whether the words have a rotation's targets.
+fn has_axis(w: usize, axis: Axis) -> bool
+    ensures { result ≡ on_words w (axis_targets axis) }
+{
+    match axis {
+        Axis::Z(q) => targets::has_qubit(w, q),
+        Axis::Zz(a, b) => targets::has_pair(w, a, b),
+    }
 }
 
 // t, tdg, rz, p and rzz.
@@ -42,29 +55,16 @@ fn apply_rotation(
     index: &mut [u32],
     w: usize,
     n: usize,
-    axis: Axis,
-    sin: f64,
-    cos: f64,
+    rotation: Rotation,
 ) -> Step
     requires { (2 * n ≤ rows_in w words.old coeffs.old) × Distinct (terms_in (2 * w) n words.old coeffs.old) }
-    ensures { Applied w n (axis_targets axis) (turned w axis sin cos (terms_in (2 * w) n words.old coeffs.old)) result
+    ensures { Applied w n (axis_targets rotation.axis) (turned w rotation.axis rotation.sin rotation.cos (terms_in (2 * w) n words.old coeffs.old)) result
         words.old words.new coeffs.old coeffs.new }
 {
-    match axis {
-        Axis::Z(q) if targets::has_qubit(w, q) => {
-            branches::rotation::branch_z_rotation(words, coeffs, index, w, n, q, sin, cos)
-        }
-        Axis::Zz(a, b) if targets::has_pair(w, a, b) => {
-            branches::rotation::branch_zz_rotation(words, coeffs, index, w, n, a, b, sin, cos)
-        }
-        _ => Step { count: n, met: 0 },
+    if has_axis(w, rotation.axis) {
+        return branch_rotation(words, coeffs, index, w, n, rotation);
     }
-}
-
-fn acts_on_two(kind: ChannelKind) -> bool
-    ensures { result ≡ acts_on_two kind }
-{
-    matches!(kind, ChannelKind::Depolarizing2q)
+    Step { count: n, met: 0 }
 }
 
 // A channel, at one target or two.
@@ -83,7 +83,8 @@ fn apply_channel(
         words.old words.new coeffs.old coeffs.new }
 {
     let action = terms::channels::channel_action(channel);
-    if targets::has_targets(acts_on_two(action.kind), w, a, b) {
+    let second = action.kind.acts_on_two().then_some(b);
+    if targets::has_targets(w, a, second) {
         return branches::channels::apply_backward_channel(words, coeffs, index, w, n, action, a, b);
     }
     Step { count: n, met: 0 }
@@ -118,15 +119,22 @@ pub(crate) fn apply_backward(
 {
     match op {
         Op::Native(g, a, b) => apply_gate(words, coeffs, w, n, g, a, b),
-        Op::T(q) => { apply_rotation(words, coeffs, index, w, n, Axis::Z(q), sine_t(), cosine_t()) }
+        Op::T(q) => {
+            let (axis, sin, cos) = (Axis::Z(q), sine_t(), cosine_t());
+            apply_rotation(words, coeffs, index, w, n, Rotation { axis, sin, cos })
+        }
         Op::Tdg(q) => {
-            let sin = -sine_t();
-            apply_rotation(words, coeffs, index, w, n, Axis::Z(q), sin, cosine_t())
+            let (axis, sin, cos) = (Axis::Z(q), -sine_t(), cosine_t());
+            apply_rotation(words, coeffs, index, w, n, Rotation { axis, sin, cos })
         }
-        Op::Rz(q, s, c) | Op::P(q, s, c) => {
-            apply_rotation(words, coeffs, index, w, n, Axis::Z(q), s, c)
+        Op::Rz(q, sin, cos) | Op::P(q, sin, cos) => {
+            let axis = Axis::Z(q);
+            apply_rotation(words, coeffs, index, w, n, Rotation { axis, sin, cos })
         }
-        Op::Rzz(a, b, s, c) => { apply_rotation(words, coeffs, index, w, n, Axis::Zz(a, b), s, c) }
+        Op::Rzz(a, b, sin, cos) => {
+            let axis = Axis::Zz(a, b);
+            apply_rotation(words, coeffs, index, w, n, Rotation { axis, sin, cos })
+        }
         Op::Barrier => Step { count: n, met: 0 },
         Op::Pauli(q, x, y, z) => {
             apply_channel(words, coeffs, index, w, n, q, 0, Noise::Pauli(x, y, z))
@@ -140,13 +148,25 @@ pub(crate) fn apply_backward(
         Op::Phase(q, g) => {
             apply_channel(words, coeffs, index, w, n, q, 0, Noise::PhaseDamping(g))
         }
-        Op::Thermal(q, d, p, e) => {
-            let channel = Noise::ThermalRelaxation(d, p, e);
-            apply_channel(words, coeffs, index, w, n, q, 0, channel)
-        }
-        Op::Depol2(a, b, p) => {
-            let channel = Noise::TwoQubitDepolarizing(p);
-            apply_channel(words, coeffs, index, w, n, a, b, channel)
-        }
+        Op::Thermal(q, d, p, e) => apply_channel(
+            words,
+            coeffs,
+            index,
+            w,
+            n,
+            q,
+            0,
+            Noise::ThermalRelaxation(d, p, e),
+        ),
+        Op::Depol2(a, b, p) => apply_channel(
+            words,
+            coeffs,
+            index,
+            w,
+            n,
+            a,
+            b,
+            Noise::TwoQubitDepolarizing(p),
+        ),
     }
 }

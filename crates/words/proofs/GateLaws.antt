@@ -169,6 +169,9 @@ conj_key_flips w a b k {l} {g} {h} e f =
     let s = bits_at w a b k in
     f ∙ ap (λ (x : Gate). flipped (flips x s) w a b k) (sym e) ∙ ap (λ (d : B.Bits). flipped d w a b k) (sym (differing_flips g s))
 
+pub conj_key_flipped : (g : Gate) (w a b : ℕ) (k : Key) → conj_key g w a b k ≡ flipped (flips g (bits_at w a b k)) w a b k
+conj_key_flipped g w a b k = sym (conj_key_flips w a b k {g = g} refl refl)
+
 module _ (g : Gate) (w a b : ℕ) (k : Key) where
   pub conj_key_length : length (conj_key g w a b k) ≡ length k
   unfolding conj_key

@@ -125,14 +125,8 @@ same_key_sym k l = go (same_key k l) refl
 pub same_key_differ : (k l : Key) (j : ℕ) → (get_or k j 0 ≡ get_or l j 0 → ⊥) → same_key k l ≡ false
 same_key_differ k l j n = same_key_ne k l (λ e. n (ap (λ (m : Key). get_or m j 0) e))
 
--- ---- a set bit stays, and a clear one is flipped
+-- ---- a bit that is set
 module _ (k : Key) (i : ℕ) where
-  pub set_at_set : bit_at k i ≡ true → k ≡ set_at k i
-  set_at_set e = ap (λ (t : Bool). cond t k (flip_at k i)) (sym e)
-
-  pub set_at_clear : bit_at k i ≡ false → flip_at k i ≡ set_at k i
-  set_at_clear e = ap (λ (t : Bool). cond t k (flip_at k i)) (sym e)
-
   pub set_at_keeps : (P : Key → Type 0) → P k → P (flip_at k i) → P (set_at k i)
   set_at_keeps P p q = go (bit_at k i)
     where

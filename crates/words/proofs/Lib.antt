@@ -9,6 +9,5 @@ pub mod ProductLaws
 pub mod RowSteps
 pub mod RowLaws
 pub mod BitNumbers
-mod Place
+pub mod Place
 pub mod OnesLaws
-pub mod QuarterLaws

@@ -120,13 +120,31 @@ module _ (w j : ℕ) (k : Key) where
       one_plus n = omega arith
 
   -- one word more
-  pub fold_turn : (f : ℕ) {r : ℕ} → ones f % 2 ≡ count_y w (64 * j) k % 2 → r ≡ bit_xor f (bit_and x z % 2 ^ 64) → ones r % 2 ≡ count_y w (64 * j + 64) k % 2
-  fold_turn f e er =
-      let a = bit_and x z % 2 ^ 64 in
-      ap (λ (n : ℕ). ones n % 2) er ∙ ones_xor f a ∙ sums (ones f) (ones a) (count_y w (64 * j) k) e ∙ ap (λ (n : ℕ). n % 2) (sym (counted 64 (omega arith)))
+  pub word_ys : x < 2 ^ 64 → count_y w (64 * (j + 1)) k ≡ ones (bit_and x z) + count_y w (64 * j) k
+  word_ys h =
+      let next : 64 * (j + 1) ≡ 64 * j + 64 = omega arith in
+      ap (λ (n : ℕ). count_y w n k) next ∙ counted 64 (omega arith)
+      ∙ ap (λ (n : ℕ). ones n + count_y w (64 * j) k) (mod-eq_of_lt (lt_of_le_of_lt (and_le_l x z) h))
+
+  pub parity_turn : (f : ℕ) → x < 2 ^ 64 → ones f % 2 ≡ count_y w (64 * j) k % 2 → ones (bit_xor f (bit_and x z)) % 2 ≡ count_y w (64 * (j + 1)) k % 2
+  parity_turn f h e = ones_xor f (bit_and x z) ∙ sums (ones f) (ones (bit_and x z)) (count_y w (64 * j) k) e ∙ ap (λ (n : ℕ). n % 2) (sym (word_ys h))
     where
       sums : (m n c : ℕ) → m % 2 ≡ c % 2 → (m + n) % 2 ≡ (n + c) % 2
       sums m n c e = omega arith
+
+  pub quarters_turn : (q : ℕ) → x < 2 ^ 64 → q ≡ count_y w (64 * j) k % 4 → (q + ones (bit_and x z)) % 4 ≡ count_y w (64 * (j + 1)) k % 4
+  quarters_turn q h e = sums q (ones (bit_and x z)) (count_y w (64 * j) k) e ∙ ap (λ (n : ℕ). n % 4) (sym (word_ys h))
+    where
+      sums : (m n c : ℕ) → m ≡ c % 4 → (m + n) % 4 ≡ (n + c) % 4
+      sums m n c e = omega arith
+
+pub parity_start : (w : ℕ) (k : Key) → ones 0 % 2 ≡ count_y w (64 * 0) k % 2
+unfolding count_y ones
+parity_start w k = refl
+
+pub quarters_start : (w : ℕ) (k : Key) → 0 ≡ count_y w (64 * 0) k % 4
+unfolding count_y
+quarters_start w k = refl
 
 -- ---- bits past the end are clear
 
@@ -146,19 +164,11 @@ count_past w p (suc d) k h =
     ∙ ap (λ (b : Bool). cond b 1 0 + count_y w (p + d) k) (and-false (bit_at k (p + d)))
     ∙ zero-add (count_y w (p + d) k) ∙ count_past w p d k h
 
-pub no_ys : (w : ℕ) (k : Key) → length k ≤ w → ys_of w k ≡ 0
-unfolding count_y
-no_ys w k h = ap (λ (n : ℕ). count_y w n k) (sym (zero-add (64 * w))) ∙ count_past w 0 (64 * w) k (omega arith)
-
 -- the x words whose z word is there
-pub ys_whole : (w : ℕ) (k : Key) {m : ℕ} → w < length k → m ≡ min w (length k - w) → count_y w (64 * m) k ≡ ys_of w k
-ys_whole w k {m} h e = ⊎_elim
+pub ys_whole : (w : ℕ) (k : Key) (m : ℕ) → m ≡ min w (length k - w) → count_y w (64 * m) k ≡ ys_of w k
+ys_whole w k m e = ⊎_elim
     (λ (l : m < w).
     let all : 64 * m + 64 * (w - m) ≡ 64 * w = omega arith in
     sym (count_past w (64 * m) (64 * (w - m)) k (omega arith)) ∙ ap (λ (n : ℕ). count_y w n k) all)
     (λ (l : w ≤ m). let same : 64 * m ≡ 64 * w = omega arith in ap (λ (n : ℕ). count_y w n k) same)
     (lt_or_le m w)
-
--- what two words have in common has no more bits than a word
-pub common_word : (x z : ℕ) → x < 2 ^ 64 → bit_and x z ≡ bit_and x z % 2 ^ 64
-common_word x z h = sym (mod-eq_of_lt (lt_of_le_of_lt (and_le_l x z) h))

@@ -15,8 +15,11 @@ rows_fit n (suc w) l h = let p : 0 < 2 * suc w = omega arith in (le-div_iff_mul-
 pub row_fits : (n w r : ℕ) → r < n / (2 * w) → r * (2 * w) + 2 * w ≤ n
 row_fits n w r h = subst (λ (x : ℕ). x ≤ n) (suc-mul r (2 * w)) (rows_fit (suc r) w n h)
 
-pub no_rows : (n w : ℕ) → n / 2 < w → n / (2 * w) ≡ 0
-no_rows n w h = div-eq_of_lt (omega arith)
+pub few_words : (n w : ℕ) → n / 2 < w → n / (2 * w) ≡ 0
+few_words n w h = div-eq_of_lt (omega arith)
+
+pub no_rows : (n w : ℕ) → w ≡ 0 → n / (2 * w) ≡ 0
+no_rows n w h = ap (λ (w : ℕ). n / (2 * w)) h ∙ div-zero n
 
 module _ (w r : ℕ) (ws : List ℕ) where
   pub part_is : take (r * (2 * w) + 2 * w - r * (2 * w)) (drop (r * (2 * w)) ws) ≡ key_at (2 * w) ws r

@@ -3,24 +3,17 @@ ghost use Rattle.std.specs.Prelude.{◌≡◌, ◌*◌, ◌/◌};
 ghost use Rattle.words.specs.Keys.{width_of};
 
 // How many whole rows of 2 * w words a buffer of n words holds; none for w = 0.
+#[tactic(auto, using(crate::proofs::RowSteps::few_words, crate::proofs::RowSteps::no_rows))]
 pub fn rows_of(n: usize, w: usize) -> usize
     ensures { result ≡ n / (2 * w) }
 {
-    if w == 0 {
-        return 0;
-    }
-    if n / 2 < w {
-        return 0;
-    }
-    n / (2 * w)
+    // It is asked for at each op: by `checked_div` a run of many rows takes 2 % longer.
+    if w == 0 || n / 2 < w { 0 } else { n / (2 * w) }
 }
 
 // How many words hold one bit for each qubit.
 pub fn width(qubits: usize) -> usize
     ensures { result ≡ width_of qubits }
 {
-    if qubits % 64 == 0 {
-        return qubits / 64;
-    }
-    qubits / 64 + 1
+    qubits.div_ceil(64)
 }

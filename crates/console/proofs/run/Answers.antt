@@ -1,26 +1,23 @@
 -- The text is that of the input, and on the other output nothing is written where all went well.
-use Rattle.std.proofs.Common.{◌∙◌}
 use Rattle.console.proofs.TextLaws.{input_of, lost}
 use Rattle.console.proofs.WriteLaws.{keeps_itself}
+use Rattle.std.proofs.Common.{◌∙◌}
 use Rattle.console.proofs.run.Goals as goal
 
 pub returns-then-write_text-clause-delivers : goal.returns-then-write_text-clause-delivers
 returns-then-write_text-clause-delivers g c =
-    let x = input_of _ _ _ _ _ c.in-Text.ensures.fed in
-    let e = c.in-Text.ensures.says.shown ∙ x.2 in
+    let x = input_of _ _ _ _ _ c.in-Ok.ensures.fed in
+    let e = c.in-Ok.ensures.says.shown ∙ x.2 in
     (x.0, x.1, rw (← e) c.if-write_text.ensures, keeps_itself _)
 
 pub returns-then-write_text-clause-input : goal.returns-then-write_text-clause-input
-returns-then-write_text-clause-input g c = lost _ _ _ _ _ c.answer_input-told.auto.buf c.in-Text.ensures.fed
+returns-then-write_text-clause-input g c = lost _ _ _ _ _ c.answer_input.auto.buf c.in-Ok.ensures.fed
 
-pub returns-else-write_text-clause-delivers : goal.returns-else-write_text-clause-delivers
-returns-else-write_text-clause-delivers g c =
-    let x = input_of _ _ _ _ _ c.in-Text.ensures.fed in
-    let e = c.in-Text.ensures.says.shown ∙ x.2 in
-    (x.0, x.1, rw (← e) c.if-write_text.ensures, c.write_text-in-Text.ensures)
+pub returns-clause-delivers : goal.returns-clause-delivers
+returns-clause-delivers g c =
+    let x = input_of _ _ _ _ _ c.in-Ok.ensures.fed in
+    let e = c.in-Ok.ensures.says.shown ∙ x.2 in
+    (x.0, x.1, rw (← e) c.if-write_text.ensures, c.write_text-told-2.ensures)
 
-pub returns-else-write_text-clause-input : goal.returns-else-write_text-clause-input
-returns-else-write_text-clause-input g c = lost _ _ _ _ _ c.answer_input-told.auto.buf c.in-Text.ensures.fed
-
-pub returns-in-Unread-clause-delivers : goal.returns-in-Unread-clause-delivers
-returns-in-Unread-clause-delivers g c = (keeps_itself _, c.write_text-in-Unread.ensures)
+pub returns-clause-input : goal.returns-clause-input
+returns-clause-input g c = lost _ _ _ _ _ c.answer_input.auto.buf c.in-Ok.ensures.fed

@@ -1,18 +1,20 @@
 -- Each read takes the next piece, and the last leaves the buffer full or the input at its end.
-use Rattle.std.proofs.Common.{rules, w64, arith}
-use Rattle.std.proofs.lemmas.Int.{to_z-of_z}
-use Rattle.input.proofs.PieceLaws.{none_taken, more_taken, whole_taken}
+use Rattle.std.proofs.Common.{arith}
+use Rattle.input.proofs.PieceLaws.{none_taken, taken_more, full, ended_here}
 use Rattle.input.proofs.reading.read_input.Goals as goal
 
-pub loop-place-init : goal.loop-place-init
-loop-place-init g c = (search rules, none_taken _)
+pub loop-at-init : goal.loop-at-init
+loop-at-init g c = record { inside = omega arith; consumed = none_taken _ }
 
-pub loop-place-preserved : goal.loop-place-preserved
-loop-place-preserved g c =
-    let r = c.read_at-got in
-    more_taken _ _ _ _ _ _ _ _ _ (to_z-of_z w64 r.result (search rules)) c.in-More.ensures c.loop-place.invariant.1 r.ensures.kept r.ensures.bytes
+pub loop-at-preserved : goal.loop-at-preserved
+loop-at-preserved g c =
+    let r = c.in_ok-n.ensures in
+    record { inside = omega (arith, r.bytes.0); consumed = taken_more _ _ _ _ _ _ _ c.loop-at.invariant.consumed r.kept r.bytes.1.0 }
 
-pub returns-in-Whole-clause-bytes : goal.returns-in-Whole-clause-bytes
-returns-in-Whole-clause-bytes g c =
-    let r = c.read_at-got in
-    whole_taken _ _ _ _ _ _ _ _ _ (to_z-of_z w64 r.result (search rules)) (omega arith) c.in-Whole.ensures c.loop-place.invariant.1 r.ensures.kept r.ensures.bytes
+pub returns-then-n-eq0-clause-bytes : goal.returns-then-n-eq0-clause-bytes
+returns-then-n-eq0-clause-bytes g c =
+    let r = c.in_ok-n.ensures in
+    ended_here _ _ _ _ _ _ _ _ c.if-n-eq0.true r.bytes.0 c.loop-at.invariant.consumed r.kept r.bytes.1.0 (r.bytes.1.1 c.if-n-eq0.true)
+
+pub returns-clause-bytes : goal.returns-clause-bytes
+returns-clause-bytes g c = full _ _ _ _ _ (omega arith) c.loop-at.invariant.consumed

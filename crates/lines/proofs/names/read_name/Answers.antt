@@ -1,7 +1,7 @@
 use Rattle.std.proofs.Common.{◌≡◌, ◌∙◌, None}
 use Rattle.std.specs.Option.{option_or}
 use Rattle.lines.specs.OpLines.{one_name, other_name, channel_name}
-use Rattle.lines.proofs.TestLaws.{name_in}
+use Rattle.lines.proofs.NameLaws.{name_in}
 use Rattle.lines.proofs.names.read_name.Goals as goal
 
 pub returns : goal.returns

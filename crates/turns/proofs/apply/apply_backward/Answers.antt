@@ -8,10 +8,10 @@ pub returns-in-Native : goal.returns-in-Native
 returns-in-Native c = acted _ _ _ (Native _ _ _) c.in-Native.is c.apply_gate.ensures
 
 pub returns-in-T : goal.returns-in-T
-returns-in-T c = acted_t _ _ _ _ _ _ c.in-T.is c.sine_t.ensures c.cosine_t.ensures c.apply_rotation.ensures
+returns-in-T c = acted_t _ _ _ _ _ _ c.in-T.is c.sine_t-sin.ensures c.cosine_t-cos.ensures c.apply_rotation.ensures
 
 pub returns-in-Tdg : goal.returns-in-Tdg
-returns-in-Tdg c = acted_tdg _ _ _ _ _ _ c.in-Tdg.is c.sine_t-sin.ensures c.cosine_t-in-Tdg.ensures c.apply_rotation-in-Tdg.ensures
+returns-in-Tdg c = acted_tdg _ _ _ _ _ _ c.in-Tdg.is c.sine_t.ensures c.cosine_t-cos-in-Tdg.ensures c.apply_rotation-in-Tdg.ensures
 
 pub returns-in-Rzz : goal.returns-in-Rzz
 returns-in-Rzz c = acted _ _ _ (Rzz _ _ _ _) c.in-Rzz.is c.apply_rotation-in-Rzz.ensures
@@ -40,6 +40,6 @@ returns-in-Depol2 c = acted_channel _ _ _ (Depol2 _ _ _) c.in-Depol2.is c.in-Dep
 pub returns-in-Rz : goal.returns-in-Rz
 returns-in-Rz c =
     elim c.in-Rz.is [
-      | inl e ↦ acted c.args.w c.args.n c.args.op (Rz c.in-Rz.q c.in-Rz.s c.in-Rz.c) e c.apply_rotation-in-Rz.ensures
-      | inr e ↦ acted c.args.w c.args.n c.args.op (P c.in-Rz.q c.in-Rz.s c.in-Rz.c) e c.apply_rotation-in-Rz.ensures
+      | inl e ↦ acted c.args.w c.args.n c.args.op (Rz c.in-Rz.q c.in-Rz.sin c.in-Rz.cos) e c.apply_rotation-in-Rz.ensures
+      | inr e ↦ acted c.args.w c.args.n c.args.op (P c.in-Rz.q c.in-Rz.sin c.in-Rz.cos) e c.apply_rotation-in-Rz.ensures
     ]
