@@ -15,6 +15,13 @@ pub struct Head {
     pub ops: usize,
 }
 
+// A sheet: its text, and the values of its head.
+#[derive(Clone, Copy)]
+pub struct Sheet<'a> {
+    pub text: &'a [u8],
+    pub head: Head,
+}
+
 // What a line of a sheet should be.
 #[derive(Clone, Copy, PartialEq)]
 pub enum Kind {

@@ -7,7 +7,7 @@ ghost use Rattle.rows.specs.Rows.{put_key};
 ghost use Rattle.lines.specs.TermLines.{weight_on, factors_on, placed};
 ghost use Rattle.layout.specs.Loaded.{with_ops, keys_with, weights_with, LinesLoaded};
 
-use crate::Head;
+use crate::Sheet;
 use crate::cursor::{line_at, next_at, start_at};
 use lines::oplines::op_on;
 use lines::termlines::{place_factors, weight_on};
@@ -15,11 +15,12 @@ use ops::Op;
 use words::rows::rows_of;
 
 // Writes the ops of a sheet to the first places of a slice, as many as there are ops and places.
-pub fn load_ops(s: &[u8], head: Head, ops: &mut [Op])
-    ensures { ops.new ≡ with_ops head (parts newline s.now) ops.old }
+pub fn load_ops(sheet: Sheet<'_>, ops: &mut [Op])
+    ensures { ops.new ≡ with_ops sheet.entry.head (parts newline sheet.entry.text.now) ops.old }
 {
-    let mut at = start_at(s, start_at(s, 0, 7), head.terms);
-    for i in 0..head.ops.min(ops.len()) {
+    let s = sheet.text;
+    let mut at = start_at(s, start_at(s, 0, 7), sheet.head.terms);
+    for i in 0..sheet.head.ops.min(ops.len()) {
         ops[i] = op_on(line_at(s, at));
         at = next_at(s, at);
     }
@@ -60,11 +61,11 @@ fn holds_rows(len: usize, w: usize, n: usize) -> bool
 
 // Writes the `term` lines of a sheet to a table: the factors of term line i set their bits in the 2 * w words from i * 2 * w on, which are
 // its word if they were zero, and its weight goes to place i. If one of the buffers cannot hold all lines, nothing changes.
-pub fn load_lines(s: &[u8], head: Head, w: usize, keys: &mut [u64], weights: &mut [f64])
-    ensures { LinesLoaded w head (parts newline s.now) keys.old keys.new weights.old weights.new }
+pub fn load_lines(sheet: Sheet<'_>, w: usize, keys: &mut [u64], weights: &mut [f64])
+    ensures { LinesLoaded w sheet.entry.head (parts newline sheet.entry.text.now) keys.old keys.new weights.old weights.new }
 {
-    let n = head.terms;
+    let n = sheet.head.terms;
     if n <= weights.len() && holds_rows(keys.len(), w, n) {
-        fill_lines(s, n, w, keys, weights);
+        fill_lines(sheet.text, n, w, keys, weights);
     }
 }

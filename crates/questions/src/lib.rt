@@ -13,7 +13,7 @@ mod optests;
 mod termtests;
 pub mod verdicts;
 
-use layout::Head;
+use layout::Sheet;
 use ops::{Op, Refusal};
 
 // The questions that are put to the whole of a sheet's values, one before the next. 5 and 6 are put together, line by line.
@@ -46,16 +46,15 @@ impl Refused {
     }
 }
 
-// A sheet that questions 1 and 2 pass: its text, its head and its ops.
+// A sheet that questions 1 and 2 pass, and its ops.
 #[derive(Clone, Copy)]
 pub struct LaidOut<'a> {
-    pub text: &'a [u8],
-    pub head: Head,
+    pub sheet: Sheet<'a>,
     pub ops: &'a [Op],
-    ghost laid: { question1 head (parts newline text.now) ≡ None },
-    ghost qubits: { head.qubits ≤ 256 },
-    ghost limit: { head.limit ≤ 1048576 },
-    ghost terms: { head.terms ≤ 1024 },
-    ghost op_count: { head.ops ≤ 4096 },
-    ghost op_list: { ops.now ≡ sheet_ops head (parts newline text.now) },
+    ghost laid: { question1 sheet.head (parts newline sheet.text.now) ≡ None },
+    ghost qubits: { sheet.head.qubits ≤ 256 },
+    ghost limit: { sheet.head.limit ≤ 1048576 },
+    ghost terms: { sheet.head.terms ≤ 1024 },
+    ghost op_count: { sheet.head.ops ≤ 4096 },
+    ghost op_list: { ops.now ≡ sheet_ops sheet.head (parts newline sheet.text.now) },
 }

@@ -7,15 +7,16 @@ ghost use Rattle.questions.specs.Questions.{places_fit, room_verdict, early_verd
 use crate::asking::ask;
 use crate::headtests::{ask_count, ask_head};
 use crate::{Asked, LaidOut, Refused};
-use layout::Head;
 use layout::laid::first_bad_line;
+use layout::{Head, Sheet};
 use ops::{Refusal, Run};
 
 // Questions 1 and 2, which asks nothing of a `term` or an `op` line.
-pub fn early_verdict(s: &[u8], head: Head) -> Result<(), Refused>
-    ensures { verdict_of result ≡ early_verdict head (parts newline s.now) }
+pub fn early_verdict(sheet: Sheet<'_>) -> Result<(), Refused>
+    ensures { verdict_of result ≡ early_verdict sheet.entry.head (parts newline sheet.entry.text.now) }
 {
-    if let Some(line) = first_bad_line(s, head.terms, head.ops) {
+    let head = sheet.head;
+    if let Some(line) = first_bad_line(sheet.text, head.terms, head.ops) {
         return Err(Refused {
             by: Refusal::Layout,
             line,
@@ -41,12 +42,12 @@ fn ask_room(head: Head, rows: usize, places: usize) -> Result<(), Refused>
 }
 
 // Questions 3 to 7 of a sheet that passed 1 and 2: 11 after 4, and 5 and 6 line by line.
-pub fn later_verdict(sheet: LaidOut<'_>, rows: usize, places: usize) -> Result<(), Refused>
-    ensures { verdict_of result ≡ later_verdict sheet.entry.head (parts newline sheet.entry.text.now) rows places }
+pub fn later_verdict(laid: LaidOut<'_>, rows: usize, places: usize) -> Result<(), Refused>
+    ensures { verdict_of result ≡ later_verdict laid.entry.sheet.head (parts newline laid.entry.sheet.text.now) rows places }
 {
-    ask(Asked::Three, sheet)?;
-    ask(Asked::Four, sheet)?;
-    ask(Asked::Eleven, sheet)?;
-    ask(Asked::FiveAndSix, sheet)?;
-    ask_room(sheet.head, rows, places)
+    ask(Asked::Three, laid)?;
+    ask(Asked::Four, laid)?;
+    ask(Asked::Eleven, laid)?;
+    ask(Asked::FiveAndSix, laid)?;
+    ask_room(laid.sheet.head, rows, places)
 }

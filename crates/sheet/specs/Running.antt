@@ -18,7 +18,7 @@ use Rattle.layout.specs.declared.Head.{Head}
 use Rattle.layout.specs.Layout.{question1, sheet_ops}
 use Rattle.replies.specs.declared.Reply.{Reply}
 use Rattle.questions.specs.Verdict.{Verdict}
-use Rattle.questions.specs.Questions.{question7}
+use Rattle.questions.specs.Questions.{question7, later_verdict}
 use Rattle.sheet.specs.Answer.{limits_of, reply, refusal, reply_to, Leaves, LeavesBy}
 
 -- how many Z means a run that succeeds leaves
@@ -73,3 +73,8 @@ pub record Sound (h : Head) (ls : List (List ℕ)) (os : List Op) : Type 0 where
 pub record Replied (h : Head) (ls : List (List ℕ)) (v : Verdict) (r : Reply) (ws ws' : List ℕ) (cs cs' ms ms' : List Float) (ix ix' : List ℕ) : Type 0 where
   pub reply : r ≡ reply_to h ls v
   pub memory : LeavesBy h ls v ws ws' cs cs' ms ms' ix ix'
+
+-- the same of a sheet that passed questions 1 and 2, by the verdict on the others
+abbrev pub RepliedLater : Head → List (List ℕ) → Reply → List ℕ → List ℕ → List Float → List Float → List Float → List Float → List ℕ → List ℕ → Type 0
+RepliedLater h ls r ws ws' cs cs' ms ms' ix ix' =
+    Replied h ls (later_verdict h ls (rows_in (width_of h.qubits) ws cs) (length ms)) r ws ws' cs cs' ms ms' ix ix'

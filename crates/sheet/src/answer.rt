@@ -4,13 +4,13 @@ ghost use Rattle.words.specs.Keys.{width_of};
 ghost use Rattle.rows.specs.Rows.{rows_in};
 ghost use Rattle.text.specs.Bytes.{parts, newline};
 ghost use Rattle.questions.specs.Verdict.{Passed};
-ghost use Rattle.questions.specs.Questions.{verdict, early_verdict, later_verdict};
+ghost use Rattle.questions.specs.Questions.{verdict, early_verdict};
 ghost use Rattle.sheet.specs.Answer.{Answered};
-ghost use Rattle.sheet.specs.Running.{LinesRoom, Replied};
+ghost use Rattle.sheet.specs.Running.{LinesRoom, Replied, RepliedLater};
 
 use crate::replying::{refusal, reply_end};
 use crate::running::run_table;
-use layout::Head;
+use layout::Sheet;
 use layout::heads::read_head;
 use layout::loads::{load_lines, load_ops};
 use ops::{Observable, Op};
@@ -23,7 +23,7 @@ use words::rows::width;
 
 // A sheet that passed every question: its lines go into a table, and its run begins. The lent buffers stay apart, as the runs take them.
 fn answer_passed(
-    sheet: LaidOut<'_>,
+    laid: LaidOut<'_>,
     keys: &mut [u64],
     weights: &mut [f64],
     words: &mut [u64],
@@ -31,27 +31,26 @@ fn answer_passed(
     index: &mut [u32],
     means: &mut [f64],
 ) -> Reply
-    requires passed { verdict sheet.head (parts newline sheet.text.now)
-        (rows_in (width_of sheet.head.qubits) words.old coeffs.old) (length means.old) ≡ Passed }
-    requires room { LinesRoom sheet.head keys.old weights.old }
-    ensures { Replied sheet.entry.head (parts newline sheet.entry.text.now) Passed result
+    requires passed { verdict laid.sheet.head (parts newline laid.sheet.text.now)
+        (rows_in (width_of laid.sheet.head.qubits) words.old coeffs.old) (length means.old) ≡ Passed }
+    requires room { LinesRoom laid.sheet.head keys.old weights.old }
+    ensures { Replied laid.entry.sheet.head (parts newline laid.entry.sheet.text.now) Passed result
         words.old words.new coeffs.old coeffs.new means.old means.new index.old index.new }
 {
-    let head = sheet.head;
-    load_lines(sheet.text, head, width(head.qubits), keys, weights);
+    let head = laid.sheet.head;
+    load_lines(laid.sheet, width(head.qubits), keys, weights);
     let observable = Observable {
         keys,
         weights: &weights[..head.terms],
     };
-    let t_count = run_t_count(head.run, sheet.ops);
-    let end = run_table(head, sheet.ops, observable, words, coeffs, index, means);
+    let t_count = run_t_count(head.run, laid.ops);
+    let end = run_table(head, laid.ops, observable, words, coeffs, index, means);
     reply_end(head.run, head.qubits, t_count, end)
 }
 
 // A sheet that passed questions 1 and 2, in a table that has room for its ops and its lines.
 fn answer_in(
-    s: &[u8],
-    head: Head,
+    sheet: Sheet<'_>,
     ops: &mut [Op],
     keys: &mut [u64],
     weights: &mut [f64],
@@ -60,49 +59,45 @@ fn answer_in(
     index: &mut [u32],
     means: &mut [f64],
 ) -> Reply
-    requires early { early_verdict head (parts newline s.now) ≡ Passed }
-    requires ops_room { head.ops ≤ length ops.old }
-    requires lines_room { LinesRoom head keys.old weights.old }
-    ensures { Replied head (parts newline s.now)
-        (later_verdict head (parts newline s.now) (rows_in (width_of head.qubits) words.old coeffs.old) (length means.old)) result
+    requires early { early_verdict sheet.head (parts newline sheet.text.now) ≡ Passed }
+    requires ops_room { sheet.head.ops ≤ length ops.old }
+    requires lines_room { LinesRoom sheet.head keys.old weights.old }
+    ensures { RepliedLater sheet.entry.head (parts newline sheet.entry.text.now) result
         words.old words.new coeffs.old coeffs.new means.old means.new index.old index.new }
 {
-    load_ops(s, head, ops);
-    let sheet = LaidOut {
-        text: s,
-        head,
+    load_ops(sheet, ops);
+    let head = sheet.head;
+    let laid = LaidOut {
+        sheet,
         ops: &ops[..head.ops],
     };
     let rows = rows_in(words.len(), coeffs.len(), width(head.qubits));
-    match later_verdict(sheet, rows, means.len()) {
+    match later_verdict(laid, rows, means.len()) {
         Err(refused) => refusal(refused),
-        Ok(()) => answer_passed(sheet, keys, weights, words, coeffs, index, means),
+        Ok(()) => answer_passed(laid, keys, weights, words, coeffs, index, means),
     }
 }
 
 // A sheet that passed questions 1 and 2, in a table for so many ops and lines, of 8 words each.
 fn answer_table<const OPS: usize, const WORDS: usize, const LINES: usize>(
-    s: &[u8],
-    head: Head,
+    sheet: Sheet<'_>,
     words: &mut [u64],
     coeffs: &mut [f64],
     index: &mut [u32],
     means: &mut [f64],
 ) -> Reply
-    requires early { early_verdict head (parts newline s.now) ≡ Passed }
-    requires ops_room { (head.ops ≤ OPS) × (OPS ≤ 4096) }
-    requires lines_room { (head.terms ≤ LINES) × (LINES ≤ 1024) }
+    requires early { early_verdict sheet.head (parts newline sheet.text.now) ≡ Passed }
+    requires ops_room { (sheet.head.ops ≤ OPS) × (OPS ≤ 4096) }
+    requires lines_room { (sheet.head.terms ≤ LINES) × (LINES ≤ 1024) }
     requires words_room { WORDS ≡ 8 * LINES }
-    ensures { Replied head (parts newline s.now)
-        (later_verdict head (parts newline s.now) (rows_in (width_of head.qubits) words.old coeffs.old) (length means.old)) result
+    ensures { RepliedLater sheet.entry.head (parts newline sheet.entry.text.now) result
         words.old words.new coeffs.old coeffs.new means.old means.new index.old index.new }
 {
     let mut ops = [Op::Barrier; OPS];
     let mut keys = [0u64; WORDS];
     let mut weights = [0.0f64; LINES];
     answer_in(
-        s,
-        head,
+        sheet,
         &mut ops,
         &mut keys,
         &mut weights,
@@ -115,22 +110,20 @@ fn answer_table<const OPS: usize, const WORDS: usize, const LINES: usize>(
 
 // A sheet that passed questions 1 and 2. Setting a table for 4,096 ops takes longer than most sheets of at most 128 ops and 16 lines.
 fn answer_laid(
-    s: &[u8],
-    head: Head,
+    sheet: Sheet<'_>,
     words: &mut [u64],
     coeffs: &mut [f64],
     index: &mut [u32],
     means: &mut [f64],
 ) -> Reply
-    requires { early_verdict head (parts newline s.now) ≡ Passed }
-    ensures { Replied head (parts newline s.now)
-        (later_verdict head (parts newline s.now) (rows_in (width_of head.qubits) words.old coeffs.old) (length means.old)) result
+    requires { early_verdict sheet.head (parts newline sheet.text.now) ≡ Passed }
+    ensures { RepliedLater sheet.entry.head (parts newline sheet.entry.text.now) result
         words.old words.new coeffs.old coeffs.new means.old means.new index.old index.new }
 {
-    if head.ops <= 128 && head.terms <= 16 {
-        answer_table::<128, 128, 16>(s, head, words, coeffs, index, means)
+    if sheet.head.ops <= 128 && sheet.head.terms <= 16 {
+        answer_table::<128, 128, 16>(sheet, words, coeffs, index, means)
     } else {
-        answer_table::<4096, 8192, 1024>(s, head, words, coeffs, index, means)
+        answer_table::<4096, 8192, 1024>(sheet, words, coeffs, index, means)
     }
 }
 
@@ -146,9 +139,12 @@ pub fn answer(
     ensures { Answered s.now result
         words.old words.new coeffs.old coeffs.new means.old means.new index.old index.new }
 {
-    let head = read_head(s);
-    match early_verdict(s, head) {
+    let sheet = Sheet {
+        text: s,
+        head: read_head(s),
+    };
+    match early_verdict(sheet) {
         Err(refused) => refusal(refused),
-        Ok(()) => answer_laid(s, head, words, coeffs, index, means),
+        Ok(()) => answer_laid(sheet, words, coeffs, index, means),
     }
 }

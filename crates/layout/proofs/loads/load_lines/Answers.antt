@@ -10,7 +10,7 @@ fill_lines-requires c = (leb-true _ _ (sym c.holds_rows.ensures ∙ c.if-holds_r
 
 pub returns-then-holds_rows : goal.returns-then-holds_rows
 returns-then-holds_rows c =
-    loaded c.args.w c.args.head (parts newline c.args.s.now) c.args.keys.now c.args.weights.now
+    loaded c.args.w c.args.sheet.head (parts newline c.args.sheet.text.now) c.args.keys.now c.args.weights.now
     (leb-true _ _ (sym c.holds_rows.ensures ∙ c.if-holds_rows.true)) c.if-n-weights.true
     c.fill_lines.ensures.0 c.fill_lines.ensures.1
 
@@ -18,6 +18,6 @@ pub returns-else-n-weights : goal.returns-else-n-weights
 returns-else-n-weights c =
     let a = c.args in
     elim c.else-n-weights.branch [
-      | few_rows w ↦ no_keys a.w a.head (parts newline a.s.now) a.keys.now a.weights.now (sym w.holds_rows.ensures ∙ w.if-holds_rows.false)
-      | few_weights w ↦ no_weights a.w a.head (parts newline a.s.now) a.keys.now a.weights.now w.if-n-weights.false
+      | few_rows w ↦ no_keys a.w a.sheet.head (parts newline a.sheet.text.now) a.keys.now a.weights.now (sym w.holds_rows.ensures ∙ w.if-holds_rows.false)
+      | few_weights w ↦ no_weights a.w a.sheet.head (parts newline a.sheet.text.now) a.keys.now a.weights.now w.if-n-weights.false
     ]

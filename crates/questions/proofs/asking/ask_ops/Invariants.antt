@@ -5,4 +5,4 @@ use Rattle.questions.proofs.WalkLaws.{Walked}
 use Rattle.questions.proofs.asking.ask_ops.Given as goal
 
 abbrev pub invariant-loop-i : goal.invariant-loop-i
-invariant-loop-i l = Walked (op_number l.asked l.sheet.head) (8 + l.sheet.head.terms) l.sheet.ops.now l.i
+invariant-loop-i l = Walked (op_number l.asked l.laid.sheet.head) (8 + l.laid.sheet.head.terms) l.laid.ops.now l.i

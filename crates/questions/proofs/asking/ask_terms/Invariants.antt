@@ -9,6 +9,6 @@ use Rattle.questions.proofs.asking.ask_terms.Given as goal
 
 abbrev pub invariant-loop-i : goal.invariant-loop-i
 invariant-loop-i l = record {
-  place : l.at ≡ start_at l.sheet.text.now 0 (6 + l.i);
-  walked : Walked (term_number l.asked l.sheet.head) 7 (term_lines l.sheet.head (parts newline l.sheet.text.now)) l.i;
+  place : l.at ≡ start_at l.laid.sheet.text.now 0 (6 + l.i);
+  walked : Walked (term_number l.asked l.laid.sheet.head) 7 (term_lines l.laid.sheet.head (parts newline l.laid.sheet.text.now)) l.i;
 }

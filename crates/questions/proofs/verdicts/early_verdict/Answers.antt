@@ -9,8 +9,8 @@ use Rattle.questions.proofs.verdicts.early_verdict.Goals as goal
 
 pub returns : goal.returns
 returns c =
-    let h = c.args.head in
-    let ls = parts newline c.args.s.now in
+    let h = c.args.sheet.head in
+    let ls = parts newline c.args.sheet.text.now in
     c.ask_count.ensures
     ∙ pass_on (head_step Two h) c.in_ok-ask_head.ensures (count_verdict Two h Passed)
     ∙ second_is h ls Passed

@@ -9,8 +9,8 @@ use Rattle.questions.proofs.verdicts.later_verdict.Goals as goal
 
 pub returns-in_err-ask : goal.returns-in_err-ask
 returns-in_err-ask c =
-    let h = c.args.sheet.head in
-    let ls = parts newline c.args.sheet.text.now in
+    let h = c.args.laid.sheet.head in
+    let ls = parts newline c.args.laid.sheet.text.now in
     let room = room_verdict h c.args.rows c.args.places in
     let p = err_from_is_err_and c.from_residual.result c.from_residual.ensures.1 in
     refused_is _ _ _ p.1 p.2
@@ -19,8 +19,8 @@ returns-in_err-ask c =
 
 pub returns-in_err-ask-2 : goal.returns-in_err-ask-2
 returns-in_err-ask-2 c =
-    let h = c.args.sheet.head in
-    let ls = parts newline c.args.sheet.text.now in
+    let h = c.args.laid.sheet.head in
+    let ls = parts newline c.args.laid.sheet.text.now in
     let room = room_verdict h c.args.rows c.args.places in
     let p = err_from_is_err_and c.from_residual-in_err-ask-2.result c.from_residual-in_err-ask-2.ensures.1 in
     refused_is _ _ _ p.1 p.2
@@ -30,8 +30,8 @@ returns-in_err-ask-2 c =
 
 pub returns-in_err-ask-3 : goal.returns-in_err-ask-3
 returns-in_err-ask-3 c =
-    let h = c.args.sheet.head in
-    let ls = parts newline c.args.sheet.text.now in
+    let h = c.args.laid.sheet.head in
+    let ls = parts newline c.args.laid.sheet.text.now in
     let room = room_verdict h c.args.rows c.args.places in
     let p = err_from_is_err_and c.from_residual-in_err-ask-3.result c.from_residual-in_err-ask-3.ensures.1 in
     refused_is _ _ _ p.1 p.2
@@ -42,8 +42,8 @@ returns-in_err-ask-3 c =
 
 pub returns-in_err-ask-4 : goal.returns-in_err-ask-4
 returns-in_err-ask-4 c =
-    let h = c.args.sheet.head in
-    let ls = parts newline c.args.sheet.text.now in
+    let h = c.args.laid.sheet.head in
+    let ls = parts newline c.args.laid.sheet.text.now in
     let room = room_verdict h c.args.rows c.args.places in
     let p = err_from_is_err_and c.from_residual-in_err-ask-4.result c.from_residual-in_err-ask-4.ensures.1 in
     refused_is _ _ _ p.1 p.2
@@ -55,8 +55,8 @@ returns-in_err-ask-4 c =
 
 pub returns : goal.returns
 returns c =
-    let h = c.args.sheet.head in
-    let ls = parts newline c.args.sheet.text.now in
+    let h = c.args.laid.sheet.head in
+    let ls = parts newline c.args.laid.sheet.text.now in
     let room = room_verdict h c.args.rows c.args.places in
     c.ask_room.ensures
     ∙ pass_on (asked_step FiveAndSix h ls) c.in_ok-ask-4.ensures room

@@ -3,27 +3,27 @@ use Rattle.text.specs.Bytes.{parts, newline}
 use Rattle.sheet.proofs.AnswerLaws.{laid_sound, early_passed, later_is, refused_reply, passed_reply}
 use Rattle.sheet.proofs.answer.answer_in.Goals as goal
 
-pub invariant_of-sheet : goal.invariant_of-sheet
-invariant_of-sheet c =
-    let h = c.args.head in
-    let s = laid_sound h (parts newline c.args.s.now) c.args.ops.now c.requires.ops_room c.requires.early in
+pub invariant_of-laid : goal.invariant_of-laid
+invariant_of-laid c =
+    let h = c.args.sheet.head in
+    let s = laid_sound h (parts newline c.args.sheet.text.now) c.args.ops.now c.requires.ops_room c.requires.early in
     record { laid = s.laid; qubits = s.qubits; limit = s.limit; terms = s.terms; op_count = s.ops; op_list = ap (take h.ops) c.load_ops.ensures ∙ s.table }
 
 pub answer_passed-requires-clause-passed : goal.answer_passed-requires-clause-passed
 answer_passed-requires-clause-passed c =
-    let h = c.args.head in
-    let ls = parts newline c.args.s.now in
+    let h = c.args.sheet.head in
+    let ls = parts newline c.args.sheet.text.now in
     early_passed h ls _ _ c.requires.early ∙ sym (later_is h ls c.args.words.now c.args.coeffs.now c.args.means.now _ _ _ c.width.ensures c.rows_in-rows.ensures c.in-Ok.ensures)
 
 pub returns-in-Err : goal.returns-in-Err
 returns-in-Err c =
-    let h = c.args.head in
-    let ls = parts newline c.args.s.now in
+    let h = c.args.sheet.head in
+    let ls = parts newline c.args.sheet.text.now in
     refused_reply h ls c.args.words.now c.args.coeffs.now c.args.means.now c.args.index.now
     (later_is h ls c.args.words.now c.args.coeffs.now c.args.means.now _ _ _ c.width.ensures c.rows_in-rows.ensures c.in-Err.ensures) c.refusal.ensures
 
 pub returns-in-Ok : goal.returns-in-Ok
 returns-in-Ok c =
-    let h = c.args.head in
-    let ls = parts newline c.args.s.now in
+    let h = c.args.sheet.head in
+    let ls = parts newline c.args.sheet.text.now in
     passed_reply h ls (later_is h ls c.args.words.now c.args.coeffs.now c.args.means.now _ _ _ c.width.ensures c.rows_in-rows.ensures c.in-Ok.ensures) c.answer_passed.ensures
