@@ -1,5 +1,5 @@
 -- An index of rows by their keys: a number for each bucket, then one for each row. Each is one more than a row, and 0 ends a chain.
-use Rattle.std.specs.Prelude.{◌≡◌, ℕ, zero, suc, ◌+◌, ◌*◌, ◌/◌, ◌%◌, ◌≤◌, ◌<◌, min, true, cond, ◌&&◌, List, [], ◌∷◌, length, get_or, set, eqb, Option, Some, None}
+use Rattle.std.specs.Prelude.{◌≡◌, ℕ, zero, suc, ◌+◌, ◌*◌, ◌/◌, ◌%◌, ◌≤◌, ◌<◌, min, true, cond, ◌&&◌, List, [], ◌∷◌, length, get_or, set, eqb, Option, Some}
 use Rattle.words.specs.Keys.{Key, same_key}
 use Rattle.terms.specs.Branch.{first}
 use Rattle.terms.specs.Lists.{tab}

@@ -46,12 +46,8 @@ pub fn run_spd_observable_light_cone(
 {
     fits64(observable.weights, circuit, limits);
     let mut marks = [false; 4096];
-    inverse_light_cone(
-        circuit.ops,
-        width(circuit.qubits),
-        observable.keys,
-        &mut marks,
-    );
+    let w = width(circuit.qubits);
+    inverse_light_cone(circuit.ops, w, observable.keys, &mut marks);
     run_sum(circuit, observable, &marks, limits, words, coeffs, index)
 }
 

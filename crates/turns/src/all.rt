@@ -48,8 +48,7 @@ fn run_z(
 
 // The runs of all qubits, in order, with one tally.
 fn all_rows(
-    qubits: usize,
-    ops: &[Op],
+    circuit: Circuit<'_>,
     marks: &[bool],
     limits: Limits,
     words: &mut [u64],
@@ -58,16 +57,23 @@ fn all_rows(
     w: usize,
     means: &mut [f64],
 ) -> Result<Tally, Refusal>
-    requires { AllReady w qubits limits ops.now words.old coeffs.old means.old }
-    ensures { AllTold w qubits result words.old words.new coeffs.old coeffs.new means.old means.new (all_to w limits marks.now ops.now qubits) }
+    requires { AllReady w circuit.qubits limits circuit.ops.now words.old coeffs.old means.old }
+    ensures { AllTold w circuit.entry.qubits result words.old words.new coeffs.old coeffs.new means.old means.new
+        (all_to w limits marks.now circuit.entry.ops.now circuit.entry.qubits) }
 {
-    let mut tally = Tally {
-        peak: 0,
-        discarded: 0.0,
-        touched: 0,
-    };
-    for q in 0..qubits {
-        let end = run_z(q, tally, ops, marks, limits, words, coeffs, index, w)?;
+    let mut tally = Tally::begun(0);
+    for q in 0..circuit.qubits {
+        let end = run_z(
+            q,
+            tally,
+            circuit.ops,
+            marks,
+            limits,
+            words,
+            coeffs,
+            index,
+            w,
+        )?;
         means[q] = end.mean;
         let touched = tally.touched + end.tally.touched;
         tally = Tally {
@@ -80,8 +86,7 @@ fn all_rows(
 
 // The runs of all qubits; then every row and the index are set to zero, and after a refusal the mean of every qubit.
 fn all_marked(
-    qubits: usize,
-    ops: &[Op],
+    circuit: Circuit<'_>,
     marks: &[bool],
     limits: Limits,
     words: &mut [u64],
@@ -91,11 +96,11 @@ fn all_marked(
     rows: usize,
     means: &mut [f64],
 ) -> Result<Finished, Refusal>
-    requires { AllReady w qubits limits ops.now words.old coeffs.old means.old × (rows ≡ rows_in w words.old coeffs.old) }
-    ensures { AllLeaves w qubits result words.old words.new coeffs.old coeffs.new means.old means.new index.old index.new
-        (all_to w limits marks.now ops.now qubits) }
+    requires { AllReady w circuit.qubits limits circuit.ops.now words.old coeffs.old means.old × (rows ≡ rows_in w words.old coeffs.old) }
+    ensures { AllLeaves w circuit.entry.qubits result words.old words.new coeffs.old coeffs.new means.old means.new index.old index.new
+        (all_to w limits marks.now circuit.entry.ops.now circuit.entry.qubits) }
 {
-    let end = all_rows(qubits, ops, marks, limits, words, coeffs, index, w, means);
+    let end = all_rows(circuit, marks, limits, words, coeffs, index, w, means);
     clear_rows(words, coeffs, w, 0, rows);
     branches::chains::clear(index);
     match end {
@@ -105,7 +110,7 @@ fn all_marked(
             tally,
         }),
         Err(refusal) => {
-            means[..qubits].fill(0.0);
+            means[..circuit.qubits].fill(0.0);
             Err(refusal)
         }
     }
@@ -132,15 +137,6 @@ pub fn run_spd_lowered(
     let mut marks = [false; 4096];
     marks::full_marks(circuit.ops, &mut marks);
     all_marked(
-        circuit.qubits,
-        circuit.ops,
-        &marks,
-        limits,
-        words,
-        coeffs,
-        index,
-        w,
-        rows,
-        means,
+        circuit, &marks, limits, words, coeffs, index, w, rows, means,
     )
 }

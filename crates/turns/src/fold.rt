@@ -26,11 +26,7 @@ impl Totals {
     {
         Totals {
             mean: 0.0,
-            tally: Tally {
-                peak: 0,
-                discarded: 0.0,
-                touched: 0,
-            },
+            tally: Tally::begun(0),
         }
     }
 

@@ -1,5 +1,10 @@
 // One turn of a run, a run of a sum under any marks with its fold, and the runs of all qubits.
+// The lent memory goes as three slices: C lends it so, and a struct of `&mut` would need a clause for each of its references in every contract.
 #![tactic(auto)]
+
+ghost use Rattle.std.specs.Prelude.{◌≡◌};
+ghost use Rattle.numbers.specs.Constants.{zero64};
+ghost use Rattle.turns.specs.Told.{tally};
 
 pub mod all;
 mod apply;
@@ -17,6 +22,19 @@ pub struct Tally {
     pub peak: usize,
     pub discarded: f64,
     pub touched: usize,
+}
+
+impl Tally {
+    // The tally of a run with so many terms, before its first op.
+    fn begun(peak: usize) -> Tally
+        ensures { result ≡ tally peak zero64 0 }
+    {
+        Tally {
+            peak,
+            discarded: 0.0,
+            touched: 0,
+        }
+    }
 }
 
 // How far a run has come: the number of terms in the rows, and the tally.

@@ -19,11 +19,7 @@ fn begun(n: usize) -> Progress
 {
     Progress {
         count: n,
-        tally: Tally {
-            peak: n,
-            discarded: 0.0,
-            touched: 0,
-        },
+        tally: Tally::begun(n),
     }
 }
 

@@ -1,5 +1,5 @@
 -- A turn goes to the next row of the chain.
-use Rattle.std.proofs.Common.{◌≡◌, ◌-◌, ◌*◌, ◌<◌, Bool, Option, Some, cond, sym, ap, ◌∙◌, rules, arith}
+use Rattle.std.proofs.Common.{◌≡◌, ◌-◌, ◌*◌, ◌<◌, Bool, Some, cond, sym, ap, ◌∙◌, rules, arith}
 use Rattle.rows.proofs.RowLaws.{row_before}
 use Rattle.branches.proofs.WalkLaws.{walk_begins, walk_falls, walk_goes, walk_ends}
 use Rattle.branches.proofs.chains.walk.Goals as goal
