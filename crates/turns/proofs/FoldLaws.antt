@@ -1,8 +1,8 @@
 -- What the proofs of the fold use of its definition. Assumes nothing.
 use mathlib.Core.Path.{◌≡◌, refl, sym, ap, ◌∙◌, subst, subst⁻¹}
-use mathlib.Core.Bool.{Bool, true, false, ◌&&◌}
+use mathlib.Core.Bool.{Bool}
 use mathlib.Core.List.{List, [], ◌∷◌, ◌++◌}
-use Prim.Native.Nat.{ℕ, zero, suc, ◌+◌, ◌*◌, ◌/◌, ◌^◌, ◌≤◌, ◌<◌, zero-le}
+use Prim.Native.Nat.{ℕ, zero, suc, ◌+◌, ◌*◌, ◌/◌, ◌^◌, ◌≤◌, ◌<◌}
 use native.Mathlib.Numerals.{add-one}
 use native.Mathlib.Omega.{arith}
 use lib.ListN.{length, get_or, take, length-take}
@@ -10,12 +10,10 @@ use lib.Seq.{take_all}
 use lib.Ieee.{Float, nan}
 use Rattle.std.specs.Prelude.{Result, Ok, Err}
 use Rattle.numbers.specs.Constants.{one64}
-use Rattle.numbers.specs.Tests.{is_finite}
 use Rattle.words.specs.Keys.{width_of}
 use Rattle.words.specs.Rows.{key_at}
 use Rattle.terms.specs.Start.{term_of}
 use Rattle.terms.proofs.ListLaws.{length_tab, get_d_tab}
-use Rattle.terms.specs.Term.{Term}
 use Rattle.rows.specs.Rows.{rows_in, Holds}
 use Rattle.rows.proofs.HoldLaws.{hold_trans}
 use Rattle.rows.proofs.StepLaws.{held_rows}
@@ -25,14 +23,14 @@ use Rattle.ops.specs.declared.Refusal.{Refusal}
 use Rattle.ops.specs.Refusals.{number_of}
 use Rattle.ops.specs.Task.{Line, Task}
 use Rattle.ops.specs.LineTable.{table_line, task_of}
-use Rattle.dynamics.specs.Turn.{Stage, refused, going, bind, ask, State, Outcome}
+use Rattle.dynamics.specs.Turn.{Stage, refused, going, bind, State, Outcome}
 use Rattle.dynamics.specs.Runs.{marked_run, begin}
-use Rattle.dynamics.specs.Outcome.{nothing_yet, alone, add_line, add_next, fold_lines, ask_totals, folded}
+use Rattle.dynamics.specs.Outcome.{nothing_yet, alone, add_line, add_next, fold_lines}
 use Rattle.dynamics.proofs.StageLaws.{bind_same, bind_bind, bind_going}
 use Rattle.turns.specs.declared.Progress.{Progress}
 use Rattle.turns.specs.declared.Finished.{Finished}
 use Rattle.turns.specs.declared.fold.Totals.{Totals}
-use Rattle.turns.specs.SumRuns.{told_by, results_of, left_by}
+use Rattle.turns.specs.SumRuns.{told_by, results_of}
 use Rattle.turns.specs.Told.{state_in, Tells, Ends}
 use Rattle.turns.specs.Folding.{held, added, SumReady, Folds}
 use Rattle.turns.proofs.TurnLaws.{emptied, untouched}
@@ -166,27 +164,3 @@ module _ (qubits : ℕ) (l : Limits) (keys : List ℕ) (weights : List Float) (o
       totals = ap (λ (s : Stage Outcome). bind s (λ o. going (add_line (held a) (get_or weights i nan) o))) (ends_refused e (alone task ms (line i)) (line_answer S E)) ∙ sym (next_is S E);
       rows = next_rows S E;
     }
-
--- ---- the end
-
--- an outcome of the fold has no terms
-none_left : (s : Stage Outcome) (a : Totals) → s ≡ going (held a) → left_by (bind s ask_totals) ≡ []
-none_left s a e = ap (λ (x : Stage Outcome). left_by (bind x ask_totals)) e ∙ go (is_finite a.mean && is_finite a.tally.discarded)
-  where
-    go : (b : Bool) → left_by (ask 8 b (going (held a))) ≡ []
-    go true = refl
-    go false = refl
-
-module _ (w : ℕ) (l : Limits) (t : Task) (ms : List Bool) {ws ws' : List ℕ} {cs cs' : List Float} where
-  ends_empty : {r : Result Finished Refusal} → told_by r ≡ results_of (folded t ms) → left_by (folded t ms) ≡ [] → Holds (2 * w) (2 * l.limit) 0 [] ws ws' cs cs' → Ends w l r ws ws' cs cs' (folded t ms)
-  ends_empty e none H = record {
-    answer = e;
-    rows = subst⁻¹ (λ (ts : List Term). Holds (2 * w) (2 * l.limit) (length ts) ts ws ws' cs cs') none H;
-    few = subst⁻¹ (λ (ts : List Term). length ts ≤ l.limit) none zero-le;
-  }
-
-  pub fold_ends : {a : Totals} {r : Result Finished Refusal} → Folds w l (Ok a) ws ws' cs cs' (fold_lines t ms t.lines nothing_yet) → told_by r ≡ results_of (ask_totals (held a)) → Ends w l r ws ws' cs cs' (folded t ms)
-  fold_ends {a} F e = ends_empty (e ∙ ap (λ (s : Stage Outcome). results_of (bind s ask_totals)) F.totals) (none_left (fold_lines t ms t.lines nothing_yet) a (sym F.totals)) F.rows
-
-  pub fold_ends_refused : {e : Refusal} → Folds w l (Err e) ws ws' cs cs' (fold_lines t ms t.lines nothing_yet) → Ends w l (Err e) ws ws' cs cs' (folded t ms)
-  fold_ends_refused F = ends_empty (ap (λ (s : Stage Outcome). results_of (bind s ask_totals)) F.totals) (ap (λ (s : Stage Outcome). left_by (bind s ask_totals)) (sym F.totals)) F.rows
