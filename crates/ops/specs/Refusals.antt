@@ -5,7 +5,7 @@ use Rattle.ops.specs.declared.Refusal.TheVariants.{Layout, Counts, RunLines, Rea
 
 -- 1. of the layout; 2. "Are qubits 1 to 256, limit 1 to 1,048,576 ..?"; 3. "Does `cone` have one term of weight 1.0 ..?"; 4. "Are epsilon finite and at
 -- least 0 ..?"; 5. "Is every qubit below qubits?"; 6. "Are .. the two targets of one op, distinct?"; 7. "Are there at least 2 × limit rows ..?"; 8. of
--- numbers that are not finite; 9. of more terms than limit; 11. "The trade now takes a pair as a rotation only if ..". A later request has 10.
+-- numbers that are not finite; 9. of more terms than limit; 11. "The trade now takes a pair as a rotation only if ..".
 abbrev pub number_of : Refusal → ℕ
 number_of Layout = 1
 number_of Counts = 2

@@ -12,7 +12,7 @@ pub mod targets;
 
 use words::Gate;
 
-// An op of a sheet. A native gate with one target has 0 for the second; rotations have their sine and cosine, channels their rates.
+// An op of a sheet. A native gate with one target has 0 for the second: the specification has the gate enum within this one, and whether there is a second says the gate; rotations have their sine and cosine, channels their rates.
 #[derive(Clone, Copy)]
 pub enum Op {
     Native(Gate, usize, usize),
@@ -31,7 +31,7 @@ pub enum Op {
 }
 
 // What a run applies: the number of qubits, and the ops in order. Every real of an op is a binary64, as every f64 is; the field says it
-// for all ops, since the prover knows it of one op that is passed.
+// for all ops, since the prover knows it only of an op that is itself a parameter.
 #[derive(Clone, Copy)]
 pub struct Circuit<'a> {
     pub qubits: usize,
@@ -86,15 +86,25 @@ pub enum Run {
 // Why a sheet or a run is refused: the question that is answered no.
 #[derive(Clone, Copy, PartialEq, Eq)]
 pub enum Refusal {
+    // A line is not laid out as it should be.
     Layout,
+    // Qubits, limit, terms or ops are too many or too few.
     Counts,
+    // The run has other lines or ops than it takes: the terms of `cone` and `all`, a channel.
     RunLines,
+    // A real is out of its range.
     Reals,
+    // A qubit is not below the number of qubits.
     Qubits,
+    // A qubit stands twice in one term or op.
     Repeats,
+    // There are too few rows or mean places.
     Room,
+    // A coefficient, a sum or a mean is not finite.
     NotFinite,
+    // There are more terms than limit.
     TooMany,
+    // A sine and a cosine are no angle, or rates sum to more than 1.
     Angles,
 }
 

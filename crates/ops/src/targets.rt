@@ -5,6 +5,7 @@ ghost use Rattle.ops.specs.Sets.{list_of};
 
 use crate::marks::Targets;
 
+// One target.
 #[tactic(auto, using(crate::proofs::TargetLaws::qubit_on))]
 pub fn has_qubit(w: usize, q: usize) -> bool
     ensures { result ≡ on_words w (q ∷ []) }
@@ -20,6 +21,7 @@ pub fn has_pair(w: usize, a: usize, b: usize) -> bool
     has_qubit(w, a) && has_qubit(w, b) && a != b
 }
 
+// The targets of an op.
 #[tactic(auto, unfolding(crate::specs::Ops::on_words))]
 pub fn has_targets(w: usize, targets: Targets) -> bool
     ensures { result ≡ on_words w (list_of targets) }

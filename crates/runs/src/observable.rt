@@ -9,7 +9,7 @@ use turns::Finished;
 use turns::sum::run_sum;
 use words::rows::width;
 
-// Every f64 is a binary64; the prover knows it of the slice that is passed.
+// Every f64 is a binary64: the prover knows it of a slice that is itself a parameter.
 fn fits64(weights: &[f64], circuit: Circuit<'_>, limits: Limits)
     ensures { Slices weights.now circuit.entry.ops.now limits }
 {}

@@ -21,7 +21,7 @@ use rows::row::rows_in;
 use runs::counts::run_t_count;
 use words::rows::width;
 
-// A sheet that passed every question: its lines go into a table, and its run begins. The lent buffers stay apart, as the runs take them.
+// A sheet that passed every question: its lines go into a table, and its run begins.
 fn answer_passed(
     laid: LaidOut<'_>,
     keys: &mut [u64],

@@ -55,7 +55,7 @@ pub(crate) fn conjugate_row(
 }
 
 // Takes each of the first n terms backward through a gate: its word, and its number by the gate's sign. The answer is how many of them
-// had a letter on at least one target. Where none had, the gate changes nothing and no row is touched. For targets that the words have each gate
+// had a letter on at least one target. Where none had, the gate changes nothing and no row is touched. For targets that the words have, each gate
 // has its own loop, from which the compiler leaves out the tests for them.
 pub fn conjugate_all_backward_phased(
     words: &mut [u64],

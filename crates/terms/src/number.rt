@@ -1,4 +1,5 @@
-// What is done to the one number of a term.
+// What is done to the one number of a term. The specification names `scaled`, `flipped` and `plus`: each product and sum is rounded once, in a function
+// of its own.
 ghost use Rattle.std.specs.Prelude.{◌≡◌};
 ghost use Rattle.words.specs.Letters.{is_odd};
 ghost use Rattle.terms.specs.Coefficient.{signed, scaled_of, flipped_of, plus_of, asks_word};

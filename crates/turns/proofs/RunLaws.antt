@@ -172,6 +172,15 @@ ending_of_lem run {end} e = sym (back end) ∙ ap told_end e ∙ forth run
     forth (refused n) = refl
     forth (going o) = refl
 
+-- The other way, for an outcome whose number is that of a question: an answer that is a `Refusal` tells of no other number.
+abbrev pub Numbered : Stage Outcome → Type 0
+Numbered (refused n) = (e : Refusal) × (n ≡ number_of e)
+Numbered (going o) = Unit {0}
+
+pub told_of : (run : Stage Outcome) {end : Result Finished Refusal} → Numbered run → end ≡ ending_of run → told_by end ≡ results_of run
+told_of (refused n) q e = ap told_by e ∙ ap refused (subst⁻¹ (λ (m : ℕ). number_of (refusal_of m) ≡ m) q.1 (ap number_of (number_back q.0)))
+told_of (going o) q e = ap told_by e
+
 -- a run that is refused, by its number
 pub ends_refused : (e : Refusal) (run : Stage Outcome) → told_by (Err e) ≡ results_of run → refused (number_of e) ≡ run
 ends_refused e (refused n) h = ap number h

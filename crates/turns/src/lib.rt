@@ -1,5 +1,4 @@
 // One turn of a run, a run of a sum under any marks with its fold, and the runs of all qubits.
-// The lent memory goes as three slices: C lends it so, and a struct of `&mut` would need a clause for each of its references in every contract.
 #![tactic(auto)]
 
 ghost use Rattle.std.specs.Prelude.{◌≡◌};

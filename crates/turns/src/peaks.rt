@@ -3,7 +3,7 @@ ghost use Rattle.std.specs.Prelude.{◌≡◌, max};
 
 use crate::Tally;
 
-// The larger of two counts. The specification of the kernels names this function and the next.
+// The larger of two counts. The specification names the form of this function and the next: a thin one that borrows the tally calls one on plain numbers.
 pub fn larger(a: usize, b: usize) -> usize
     ensures { result ≡ max a b }
 {
