@@ -34,8 +34,7 @@ fn fill_line(l: &[u8], w: usize, i: usize, keys: &mut [u64], weights: &mut [f64]
 {
     let size = 2 * w;
     let base = i * size;
-    let end = base + size;
-    place_factors(l, w, &mut keys[base..end]);
+    place_factors(l, w, &mut keys[base..base + size]);
     weights[i] = weight_on(l);
 }
 
