@@ -26,27 +26,6 @@ use Rattle.branches.specs.Pairs.{NotAfter}
 use Rattle.rows.proofs.RowLaws.{length_key, put_val_same}
 use Rattle.rows.proofs.HoldLaws.{hold_start, hold_val, hold_set, hold_push, hold_room, hold_wide, hold_trans, room_at, room_less}
 
--- ---- a row times the cosine, if it is met
-
-module _ (w : ℕ) (met : Key → Bool) (partner : Key → Key) (sin cos : Float) (s i : ℕ) (ws : List ℕ) (cs : List Float) where
-  pub scaled_met_lem : {v u : Float} {cs' : List Float} → met (key_at s ws i) ≡ true → v ≡ coeff_at cs i → u ≡ scaled_of cos v → cs' ≡ put_coeff cs i u
-      → cs' ≡ put_coeff cs i (scaled_met w met partner sin cos (term_at s ws cs i)).coeff
-  scaled_met_lem e ev eu ec =
-      ec ∙ ap (put_coeff cs i) (eu ∙ ap (scaled_of cos) ev
-      ∙ ap (λ (b : Bool). (cond b (term (key_at s ws i) (scaled_of cos (coeff_at cs i))) (term_at s ws cs i)).coeff) (sym e))
-
-  pub scaled_unmet : met (key_at s ws i) ≡ false → cs ≡ put_coeff cs i (scaled_met w met partner sin cos (term_at s ws cs i)).coeff
-  scaled_unmet e =
-      sym (put_val_same cs i)
-      ∙ ap (λ (b : Bool). put_coeff cs i (cond b (term (key_at s ws i) (scaled_of cos (coeff_at cs i))) (term_at s ws cs i)).coeff) (sym e)
-
-pub scaled_key : (w : ℕ) (met : Key → Bool) (partner : Key → Key) (sin cos : Float) (t : Term) → (scaled_met w met partner sin cos t).key ≡ t.key
-scaled_key w met partner sin cos t = go (met t.key)
-  where
-    go : (b : Bool) → (cond b (term t.key (scaled_of cos t.coeff)) t).key ≡ t.key
-    go true = refl
-    go false = refl
-
 -- ---- the stores of each case
 
 -- a pair: each part is scaled, the mate is flipped, and the two are added
