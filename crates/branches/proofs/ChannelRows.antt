@@ -29,7 +29,7 @@ use Rattle.terms.proofs.IdentityLaws.{branch_now}
 use Rattle.branches.specs.Letters.{letter_of}
 use Rattle.words.specs.Rows.{key_at}
 use Rattle.rows.specs.Rows.{coeff_at, term_at, terms_in, rows_in, put_key, put_coeff, Room, Holds, Grown}
-use Rattle.rows.proofs.RowLaws.{length_key, put_val_same}
+use Rattle.rows.proofs.RowLaws.{length_key}
 use Rattle.rows.proofs.HoldLaws.{hold_start, hold_at, hold_val, hold_push, hold_wide, hold_trans, room_at, room_less}
 use Rattle.rows.proofs.StepLaws.{grown}
 

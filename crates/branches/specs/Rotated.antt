@@ -4,7 +4,7 @@ use Rattle.std.specs.Bool.{then_some}
 use Rattle.words.specs.Keys.{Key}
 use Rattle.terms.specs.declared.Axis.{Axis}
 use Rattle.terms.specs.Term.{Term, Distinct}
-use Rattle.terms.specs.Rotation.{met_by, partner_by, on_key, scaled_met, rotated}
+use Rattle.terms.specs.Rotation.{met_by, partner_by, on_key, rotated}
 use Rattle.terms.specs.Branch.{branch_lone, branch_row, branch_to, branched}
 use Rattle.branches.specs.declared.rotation.Rotation.{Rotation}
 use Rattle.rows.specs.Rows.{terms_in, Grown}

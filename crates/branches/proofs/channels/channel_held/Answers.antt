@@ -1,9 +1,6 @@
 -- The two kinds of channels.
-use Rattle.std.proofs.Common.{◌≡◌, ◌*◌, get_or, map, subst, rules}
+use Rattle.std.proofs.Common.{◌*◌, get_or, rules}
 use Rattle.std.specs.Float.{nan}
-use Rattle.words.specs.Rows.{key_at}
-use Rattle.terms.specs.Term.{Term}
-use Rattle.rows.specs.Rows.{terms_in, Holds}
 use Rattle.branches.specs.Letters.{either_factor}
 use Rattle.branches.proofs.ScalingLaws.{held_by, by_either}
 use borrow.Author.Tests.{leb-true}

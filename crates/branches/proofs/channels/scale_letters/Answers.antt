@@ -1,8 +1,5 @@
 -- Each row times the multiplier of its letter.
-use Rattle.std.proofs.Common.{◌≡◌, Option, Float, ◌*◌, map, subst, rules}
-use Rattle.words.specs.Rows.{key_at}
-use Rattle.terms.specs.Term.{Term}
-use Rattle.rows.specs.Rows.{terms_in, Holds}
+use Rattle.std.proofs.Common.{◌*◌, rules}
 use Rattle.branches.specs.Letters.{letter_factor}
 use Rattle.branches.proofs.ScalingLaws.{held_by, by_letter}
 use Rattle.branches.proofs.channels.scale_letters.Goals as goal

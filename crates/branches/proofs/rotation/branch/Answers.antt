@@ -1,8 +1,5 @@
 -- The rotation in place, and from the old values.
-use Rattle.std.proofs.Common.{◌≡◌, ◌*◌, map, subst}
-use Rattle.words.specs.Rows.{key_at}
-use Rattle.terms.specs.Term.{Term}
-use Rattle.rows.specs.Rows.{terms_in, Holds}
+use Rattle.std.proofs.Common.{◌*◌}
 use Rattle.branches.specs.Rotated.{met_factor}
 use Rattle.branches.proofs.ScalingLaws.{held_by, by_met}
 use native.Mathlib.Omega.{arith}

@@ -1,6 +1,6 @@
 -- A turn multiplies row i by the factor of its key, where it has one.
 use native.Mathlib.Nat.{le_refl}
-use Rattle.std.proofs.Common.{◌*◌, arith, sym, ◌∙◌, refl, subst}
+use Rattle.std.proofs.Common.{◌*◌, arith, refl, subst}
 use Rattle.std.proofs.lemmas.Fn.{says_at}
 use Rattle.std.specs.Fn.{FnReturnsAt}
 use Rattle.words.specs.Keys.{Key}
