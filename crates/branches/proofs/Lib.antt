@@ -8,6 +8,7 @@ mod TableLaws
 mod PartnerLaws
 mod RotationRows
 pub mod RotatedLaws
+mod ScalingLaws
 mod ChannelRows
 mod IndexRows
 mod ShareLaws

@@ -1,6 +1,6 @@
 -- One row of a rotation: what the stores of each case do to the terms, and a turn of the loop over the rows. Assumes nothing.
 use mathlib.Core.Path.{◌≡◌, refl, sym, ap, ap₂, ◌∙◌}
-use mathlib.Core.Bool.{Bool, true, false, not, cond}
+use mathlib.Core.Bool.{Bool, true, false, not}
 use mathlib.Core.List.{List}
 use Prim.Native.Nat.{ℕ, suc, ◌+◌, ◌%◌, ◌≤◌, ◌<◌}
 use native.Mathlib.Nat.{le_refl}
@@ -14,8 +14,8 @@ use Rattle.words.specs.Keys.{Key, same_key}
 use Rattle.std.specs.Prelude.{Option, Some, None}
 use Rattle.words.specs.Letters.{is_odd}
 use Rattle.terms.specs.Coefficient.{scaled_of, flipped_of, plus_of}
-use Rattle.terms.specs.Term.{Term, term, no_term, odd_y}
-use Rattle.terms.specs.Rotation.{scaled_met, flipped_term, mixed}
+use Rattle.terms.specs.Term.{Term, no_term, odd_y}
+use Rattle.terms.specs.Rotation.{flipped_term, mixed}
 use Rattle.terms.specs.Branch.{first, row_of, branch_pair, branch_lone, branch_by, branch_row, branch_to}
 use Rattle.terms.proofs.YLaws.{odd_same, odd_suc}
 use Rattle.terms.proofs.ListLaws.{get_d_tab}
@@ -23,29 +23,8 @@ use Rattle.terms.proofs.FirstLaws.{first_ext, first_at}
 use Rattle.words.specs.Rows.{key_at}
 use Rattle.rows.specs.Rows.{coeff_at, term_at, terms_in, put_key, put_coeff, Room, Holds}
 use Rattle.branches.specs.Pairs.{NotAfter}
-use Rattle.rows.proofs.RowLaws.{length_key, put_val_same}
+use Rattle.rows.proofs.RowLaws.{length_key}
 use Rattle.rows.proofs.HoldLaws.{hold_start, hold_val, hold_set, hold_push, hold_room, hold_wide, hold_trans, room_at, room_less}
-
--- ---- a row times the cosine, if it is met
-
-module _ (w : ℕ) (met : Key → Bool) (partner : Key → Key) (sin cos : Float) (s i : ℕ) (ws : List ℕ) (cs : List Float) where
-  pub scaled_met_lem : {v u : Float} {cs' : List Float} → met (key_at s ws i) ≡ true → v ≡ coeff_at cs i → u ≡ scaled_of cos v → cs' ≡ put_coeff cs i u
-      → cs' ≡ put_coeff cs i (scaled_met w met partner sin cos (term_at s ws cs i)).coeff
-  scaled_met_lem e ev eu ec =
-      ec ∙ ap (put_coeff cs i) (eu ∙ ap (scaled_of cos) ev
-      ∙ ap (λ (b : Bool). (cond b (term (key_at s ws i) (scaled_of cos (coeff_at cs i))) (term_at s ws cs i)).coeff) (sym e))
-
-  pub scaled_unmet : met (key_at s ws i) ≡ false → cs ≡ put_coeff cs i (scaled_met w met partner sin cos (term_at s ws cs i)).coeff
-  scaled_unmet e =
-      sym (put_val_same cs i)
-      ∙ ap (λ (b : Bool). put_coeff cs i (cond b (term (key_at s ws i) (scaled_of cos (coeff_at cs i))) (term_at s ws cs i)).coeff) (sym e)
-
-pub scaled_key : (w : ℕ) (met : Key → Bool) (partner : Key → Key) (sin cos : Float) (t : Term) → (scaled_met w met partner sin cos t).key ≡ t.key
-scaled_key w met partner sin cos t = go (met t.key)
-  where
-    go : (b : Bool) → (cond b (term t.key (scaled_of cos t.coeff)) t).key ≡ t.key
-    go true = refl
-    go false = refl
 
 -- ---- the stores of each case
 

@@ -4,3 +4,4 @@ pub mod Probe
 pub mod Chains
 pub mod Pairs
 pub mod Started
+pub mod Scaling

@@ -1,8 +1,10 @@
 -- What a rotation leaves in the buffers.
-use Rattle.std.specs.Prelude.{◌≡◌, true, List, ℕ, ◌*◌, Float}
+use Rattle.std.specs.Prelude.{◌≡◌, true, Option, List, ℕ, ◌*◌, Float}
+use Rattle.std.specs.Bool.{then_some}
+use Rattle.words.specs.Keys.{Key}
 use Rattle.terms.specs.declared.Axis.{Axis}
 use Rattle.terms.specs.Term.{Term, Distinct}
-use Rattle.terms.specs.Rotation.{met_by, partner_by, on_key, scaled_met, rotated}
+use Rattle.terms.specs.Rotation.{met_by, partner_by, on_key, rotated}
 use Rattle.terms.specs.Branch.{branch_lone, branch_row, branch_to, branched}
 use Rattle.branches.specs.declared.rotation.Rotation.{Rotation}
 use Rattle.rows.specs.Rows.{terms_in, Grown}
@@ -16,8 +18,9 @@ pub record Rotated (w n : ℕ) (x : Axis) (sin cos : Float) (r : ℕ) (ws ws' : 
 
 -- ---- words of the private contracts: one row scaled, rewritten or with its partner added, and the rows before row i, by a rotation
 
-abbrev pub scaled_by : ℕ → Rotation → Term → Term
-scaled_by w r = scaled_met w (met_by r.axis) (partner_by w r.axis) r.sin r.cos
+-- the cosine, for a word that the rotation meets
+unfoldable pub met_factor : Rotation → Key → Option Float
+met_factor r k = then_some (met_by r.axis k) r.cos
 
 abbrev pub lone_by : ℕ → Rotation → ℕ → List Term → List Term
 lone_by w r = branch_lone w (met_by r.axis) (partner_by w r.axis) r.sin r.cos

@@ -8,6 +8,7 @@ mod pairs;
 mod partners;
 mod probe;
 pub mod rotation;
+mod scaling;
 pub mod start;
 
 use terms::Axis;

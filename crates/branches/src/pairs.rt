@@ -1,7 +1,8 @@
 // The table of partners of a rotation, made by one pass over the rows. Its memory has the buckets and the links of chains, and then a number
 // for each row, which says what is to be done at it: 0 for nothing, where it is not met or its partner is before it; 1 if it has no partner;
 // else twice one more than its partner, and the parity of its Y letters. So the words of pairs, and of rows that are not met, are read once.
-// A chain has the first row of each pair.
+// A chain has the first row of each pair. The memory of the table is lent by C as numbers, which is why what is to be done at a row is a number
+// there; `mate` reads it.
 ghost use Rattle.std.specs.Prelude.{◌≡◌, true, ◌+◌, ◌*◌, ◌≤◌, ◌<◌, length, get_or};
 ghost use Rattle.terms.specs.Rotation.{met_by, on_key};
 ghost use Rattle.words.specs.Rows.{key_at};

@@ -34,7 +34,8 @@ pub(crate) fn key_met(key: &[u64], axis: Axis) -> bool
     }
 }
 
-// 1 where the Y letters of a key are odd in number, else 0.
+// 1 where the Y letters of a key are odd in number, else 0. It is a number, as the bits of a gate are: the table keeps it as a bit and a sine is
+// chosen by it, and a branch on it would often be predicted wrongly.
 #[tactic(auto, using(terms::proofs::YLaws::odd_same))]
 pub(crate) fn key_odd(key: &[u64], w: usize) -> usize
     ensures { (is_odd result ≡ odd_y w key.now) × (result < 2) }

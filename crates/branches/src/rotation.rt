@@ -5,8 +5,9 @@ ghost use Rattle.terms.specs.Rotation.{mixed};
 ghost use Rattle.terms.specs.Met.{targets, axis_targets};
 ghost use Rattle.rows.specs.Rows.{coeff_at, term_at, terms_in, met_in, put_coeff, Room, Holds};
 ghost use Rattle.branches.specs.Pairs.{Tabled};
-ghost use Rattle.branches.specs.Rotated.{Rotated, scaled_by, lone_by, row_by, rows_by};
+ghost use Rattle.branches.specs.Rotated.{Rotated, met_factor, lone_by, row_by, rows_by};
 
+use crate::scaling::scale_rows;
 use crate::{Mate, pairs, partners, probe};
 use rows::letters::{has_targets, met_rows};
 use rows::{Step, row};
@@ -20,24 +21,12 @@ pub struct Rotation {
     pub cos: f64,
 }
 
-// Row i times the cosine, if it is met.
-fn scale_row(words: &[u64], coeffs: &mut [f64], w: usize, i: usize, rotation: Rotation)
-    requires { (i * (2 * w) + 2 * w ≤ length words.now) × (i < length coeffs.old) }
-    ensures { coeffs.new ≡ put_coeff coeffs.old i (scaled_by w rotation (term_at (2 * w) words.now coeffs.old i)).coeff }
+// The cosine, for a key that the rotation meets.
+#[tactic(auto, unfolding(crate::specs::Rotated::met_factor))]
+fn met_factor(key: &[u64], rotation: Rotation) -> Option<f64>
+    ensures { result ≡ met_factor rotation key.now }
 {
-    if probe::key_met(probe::key(words, w, i), rotation.axis) {
-        coeffs[i] = number::scaled(coeffs[i], rotation.cos);
-    }
-}
-
-fn scale_rows(words: &[u64], coeffs: &mut [f64], w: usize, n: usize, rotation: Rotation)
-    requires { Room (2 * w) n words.now coeffs.old }
-    ensures { Holds (2 * w) n n (map (scaled_by w rotation) (terms_in (2 * w) n words.now coeffs.old))
-        words.now words.now coeffs.old coeffs.new }
-{
-    for i in 0..n {
-        scale_row(words, coeffs, w, i, rotation);
-    }
+    probe::key_met(key, rotation.axis).then_some(rotation.cos)
 }
 
 // Two rows that are each other's partners, each from the old values; the Y letters of row i are odd in number if `odd` is odd, those of row j if
@@ -141,7 +130,7 @@ fn branch(
         return n;
     }
     if rotation.sin == 0.0 {
-        scale_rows(words, coeffs, w, n, rotation);
+        scale_rows(words, coeffs, w, n, |key| met_factor(key, rotation));
         return n;
     }
     let buckets = pairs::table(words, w, n, rotation.axis, index);

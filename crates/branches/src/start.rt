@@ -13,6 +13,7 @@ ghost use Rattle.branches.specs.Chains.{Indexed, Spare};
 ghost use Rattle.branches.specs.Started.{SharedRow, Started, lines_of};
 
 use crate::{Sought, chains, probe};
+use numbers::signs::negated_if;
 use rows::clear::clear_rows;
 use rows::row;
 use terms::number;
@@ -23,7 +24,7 @@ use words::rows::rows_of;
 fn signed(quarters: u8, weight: f64) -> f64
     ensures { result ≡ cond (ltb 1 (quarters % 4)) (neg weight) weight }
 {
-    if 1 < quarters % 4 { -weight } else { weight }
+    negated_if(weight, usize::from(quarters) % 4 / 2)
 }
 
 // A row becomes the term of a line, with a weight.

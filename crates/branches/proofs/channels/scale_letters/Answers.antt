@@ -1,24 +1,11 @@
-use Prim.Native.Nat.{◌*◌}
-use native.Mathlib.Nat.{le_refl}
-use native.Mathlib.Omega.{arith}
-use Rattle.terms.specs.Lists.{map_to}
-use Rattle.terms.specs.Channel.{scaled_letter}
-use Rattle.rows.proofs.HoldLaws.{hold_start, hold_map, hold_room, room_at}
-use Rattle.rows.proofs.StepLaws.{held_map}
-use Rattle.branches.proofs.ChannelRows.{letter_key}
+-- Each row times the multiplier of its letter.
+use Rattle.std.proofs.Common.{◌*◌, rules}
+use Rattle.branches.specs.Letters.{letter_factor}
+use Rattle.branches.proofs.ScalingLaws.{held_by, by_letter}
 use Rattle.branches.proofs.channels.scale_letters.Goals as goal
 
-pub loop-i-init : goal.loop-i-init
-unfolding map_to
-loop-i-init c = let a = c.args in (omega arith, hold_start (2 * a.w) a.n a.n a.words.now a.coeffs.now)
-
-pub scale_letter-requires : goal.scale_letter-requires
-scale_letter-requires c = room_at (hold_room c.loop-i.invariant.1 c.requires) c.loop-i.i c.loop-i-test.true
-
-pub loop-i-preserved : goal.loop-i-preserved
-loop-i-preserved c = let a = c.args in
-    (omega arith, hold_map (scaled_letter a.w a.q a.lambda) (letter_key a.w a.q a.lambda) c.loop-i.i _ c.loop-i.invariant.1 c.requires (le_refl a.n) c.loop-i-test.true c.scale_letter.ensures)
-
 pub returns : goal.returns
-returns c = let a = c.args in
-    held_map (scaled_letter a.w a.q a.lambda) (2 * a.w) a.n a.n c.loop-i.i a.words.now a.coeffs.now c.loop-i.invariant.1 c.loop-i.invariant.0 c.loop-i-test.false
+returns c =
+    let a = c.args in
+    held_by (2 * a.w) a.n a.words.now a.coeffs.now (by_letter a.w a.q a.lambda)
+    (c.scale_rows.ensures (letter_factor a.w a.q a.lambda) (λ i r h e. search rules))
