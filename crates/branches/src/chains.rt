@@ -1,6 +1,5 @@
 // The index: chains of rows, one to a bucket of a hash of their keys. A bucket's number is one more than the last row of its chain, a
-// row's number one more than the row before it there; 0 ends a chain: the memory is lent by C as numbers. The memory and the number of its buckets
-// stay two parameters, as the two buffers do (rows).
+// row's number one more than the row before it there; 0 ends a chain: the memory is lent by C as numbers.
 ghost use Rattle.std.specs.Prelude.{◌≡◌, true, Option, ◌+◌, ◌*◌, ◌≤◌, ◌<◌, length, replicate};
 ghost use Rattle.words.specs.Keys.{same_key};
 ghost use Rattle.terms.specs.Branch.{first};
@@ -49,8 +48,8 @@ pub(crate) fn bucket_of(
     bucket(h, buckets)
 }
 
-// Inlined: as a call with an Option for its answer a run of rotations takes 6 % more instructions, inlined 18 % fewer.
-// The first row of a chain that has the key looked for from row i. `at` is one more than a row, or 0, as the numbers of the index are.
+// The first row of a chain that has the key looked for from row i. `at` is one more than a row, or 0, as the numbers of the index are: the loop goes
+// from row to row, not by a count. Inlined: as a call with an Option for its answer a run of rotations takes 6 % more instructions, inlined 18 % fewer.
 #[inline(always)]
 pub(crate) fn walk(
     words: &[u64],
