@@ -9,7 +9,9 @@ use borrow.Author.Tests.{lt-ltb, le-ltb, ne_eqb}
 use lib.Dec.{ltb, eqb, eqb-suc-suc}
 use lib.ListN.{length, get_or, drop}
 use Rattle.std.specs.Prelude.{Option, Some, None}
-use Rattle.std.specs.List.{enumerate_from}
+use Rattle.std.specs.List.{enumerate_from, count_by}
+use Rattle.std.proofs.lemmas.List.Recursion.{is_count_by}
+use Rattle.text.specs.Bytes.{on_first, parts}
 use Rattle.std.proofs.lemmas.Bool.Decides.{nat_tests}
 use Rattle.layout.specs.declared.Kind.{Kind}
 use Rattle.layout.specs.Layout.{kind, is_laid_out, is_end, bad_line}
@@ -26,6 +28,25 @@ part_at (q ∷ ps) n (suc j) i p h =
 pub parts_counted : (n : ℕ) (ps : List (List ℕ)) → length (enumerate_from n ps) ≡ length ps
 parts_counted n [] = refl
 parts_counted n (p ∷ ps) = ap suc (parts_counted (n + 1) ps)
+
+-- one part more than there are bytes c
+onto : (b : ℕ) (t : Bool) (ps : List (List ℕ)) (n : ℕ) → length ps ≡ suc n → length (cond t ([] ∷ ps) (on_first b ps)) ≡ suc (cond t (1 + n) n)
+unfolding on_first
+onto b true ps n e = ap suc e ∙ omega arith
+onto b false [] n e = absurd (omega (arith, e))
+onto b false (p ∷ ps) n e = e
+
+abbrev ends : ℕ → List ℕ → ℕ
+ends c [] = 0
+ends c (b ∷ bs) = cond (eqb b c) (1 + ends c bs) (ends c bs)
+
+ends_parts : (c : ℕ) (s : List ℕ) → length (parts c s) ≡ suc (ends c s)
+unfolding parts
+ends_parts c [] = refl
+ends_parts c (b ∷ bs) = onto b (eqb b c) (parts c bs) (ends c bs) (ends_parts c bs)
+
+pub parts_ended : (c : ℕ) (s : List ℕ) → length (parts c s) ≡ suc (count_by (λ b. eqb b c) s)
+parts_ended c s = ends_parts c s ∙ ap suc (is_count_by (ends c) (λ b. eqb b c) refl (λ b bs. refl) s)
 
 -- what is wrong in the parts from i on
 abbrev pub left : ℕ → ℕ → List (List ℕ) → ℕ → Option ℕ

@@ -1,5 +1,5 @@
 // Question 1: the first line that is not laid out as it should be.
-ghost use Rattle.std.specs.Prelude.{◌≡◌, cond};
+ghost use Rattle.std.specs.Prelude.{◌≡◌, cond, length};
 ghost use Rattle.text.specs.Bytes.{parts, newline};
 ghost use Rattle.layout.specs.Layout.{is_laid_out, is_end, bad_line};
 
@@ -10,6 +10,7 @@ use lines::oplines::is_op_line;
 use lines::termlines::is_term_line;
 
 // Whether a line is what its kind asks.
+#[tactic(auto, unfolding(crate::specs::Layout::is_laid_out))]
 fn is_laid_out(c: Kind, l: &[u8]) -> bool
     ensures { result ≡ is_laid_out c l.now }
 {
@@ -39,11 +40,19 @@ fn is_right(c: Kind, l: &[u8], last: bool) -> bool
     }
 }
 
+// How many parts a text has: one more than bytes 10.
+#[tactic(auto, using(crate::proofs::LineLaws::parts_ended))]
+fn count_parts(s: &[u8]) -> usize
+    ensures { result ≡ length (parts newline s.now) }
+{
+    1 + s.iter().filter(|b| **b == b'\n').count()
+}
+
 // The number of the first line that is not what it should be, counted from 1. A line that is missing counts.
 pub fn first_bad_line(s: &[u8], terms: usize, ops: usize) -> Option<usize>
     ensures { result ≡ bad_line terms ops (parts newline s.now) 1 }
 {
-    let count = s.split(|b| *b == b'\n').count();
+    let count = count_parts(s);
     for (i, l) in s.split(|b| *b == b'\n').enumerate() {
         let k = i + 1;
         if !is_right(line_kind(terms, ops, k), l, k == count) {

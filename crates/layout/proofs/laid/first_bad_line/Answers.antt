@@ -1,7 +1,7 @@
 use Rattle.std.proofs.Common.{rules, arith}
 use Rattle.std.proofs.Common.{◌∙◌, sym, ap, length, eqb, tests}
 use Rattle.std.proofs.lemmas.Iterator.Splits.{YieldsList-from_slice_split}
-use Rattle.std.proofs.lemmas.Iterator.Consumers.{YieldsList-turn, YieldsList-end, YieldsList-from_enumerate, count_from_yields_List}
+use Rattle.std.proofs.lemmas.Iterator.Consumers.{YieldsList-turn, YieldsList-end, YieldsList-from_enumerate}
 use Rattle.std.proofs.lemmas.List.{length_push}
 use Rattle.text.specs.Bytes.{parts, newline}
 use Rattle.text.proofs.PartLaws.{parts_split, parts_some}
@@ -13,13 +13,13 @@ loop-i-init c = left_all _ _ _ (parts_some newline c.args.s.now)
 
 pub returns-then-not-is_right : goal.returns-then-not-is_right
 returns-then-not-is_right c =
-    let n = count_from_yields_List _ c.count-count.result c.count-count.ensures.ran (YieldsList-from_slice_split _ (λ b. eqb b 10) c.args.s.now c.split.ensures.rest c.split.ensures.done c.split.ensures.closure (λ x b q k. search (rules, tests))) in
+    let n = c.count_parts-count.ensures ∙ ap length (sym (parts_split newline c.args.s.now)) in
     let t = YieldsList-turn (YieldsList-from_enumerate (YieldsList-from_slice_split _ (λ b. eqb b 10) c.args.s.now (cc) (cc) (cc) (λ x b q k. search (rules, tests))) (cc)) c.loop-i.yielded _ c.loop-i.yielded_by _ _ _ c.in-Some.is c.next.ensures.steps in
     part_bad _ _ _ _ (parts_split newline c.args.s.now) _ _ _ t _ n _ c.line_kind.ensures _ c.is_right.ensures _ c.loop-i.invariant c.if-not-is_right.true
 
 pub loop-i-preserved : goal.loop-i-preserved
 loop-i-preserved c =
-    let n = count_from_yields_List _ c.count-count.result c.count-count.ensures.ran (YieldsList-from_slice_split _ (λ b. eqb b 10) c.args.s.now c.split.ensures.rest c.split.ensures.done c.split.ensures.closure (λ x b q k. search (rules, tests))) in
+    let n = c.count_parts-count.ensures ∙ ap length (sym (parts_split newline c.args.s.now)) in
     let t = YieldsList-turn (YieldsList-from_enumerate (YieldsList-from_slice_split _ (λ b. eqb b 10) c.args.s.now (cc) (cc) (cc) (λ x b q k. search (rules, tests))) (cc)) c.loop-i.yielded _ c.loop-i.yielded_by _ _ _ c.in-Some.is c.next.ensures.steps in
     rw (length_push c.loop-i.yielded (c.in-Some.i, c.in-Some.l)) (part_good _ _ _ _ (parts_split newline c.args.s.now) _ _ _ t _ n _ c.line_kind.ensures _ c.is_right.ensures _ c.loop-i.invariant c.if-not-is_right.false)
 
