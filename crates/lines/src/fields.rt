@@ -8,7 +8,7 @@ use text::parts::is_text;
 use text::reals::read_real;
 
 // The count on a line that starts with the key k.
-#[tactic(auto, using(crate::proofs::WordLaws::begins_stripped))]
+#[tactic(auto, using(text::proofs::PartLaws::begins_stripped))]
 pub fn read_count(l: &[u8], k: &[u8]) -> Option<usize>
     ensures { result ≡ count k.now l.now }
 {
@@ -16,7 +16,7 @@ pub fn read_count(l: &[u8], k: &[u8]) -> Option<usize>
 }
 
 // The real number on a line that starts with the key k.
-#[tactic(auto, using(crate::proofs::WordLaws::begins_stripped))]
+#[tactic(auto, using(text::proofs::PartLaws::begins_stripped))]
 pub fn read_real_field(l: &[u8], k: &[u8]) -> Option<f64>
     ensures { result ≡ real_field k.now l.now }
 {
