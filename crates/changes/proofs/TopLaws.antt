@@ -13,7 +13,7 @@ use Rattle.lines.specs.TermLines.{line_on}
 use Rattle.layout.specs.declared.Head.{Head}
 use Rattle.layout.specs.Layout.{question1, term_lines, sheet_ops}
 use Rattle.questions.specs.Verdict.{Verdict, RefusedAt, Passed}
-use Rattle.questions.specs.Questions.{question2, question3, question4, question11, question5, question6, question7, ◌or_else◌, first_of, refused_or, refused_by, line_of, by_question, fault_of, first_fault, by_line, room_verdict, verdict}
+use Rattle.questions.specs.Questions.{question2, question3, question4, question5, question6, question7, question11, ◌or_else◌, first_of, refused_or, refused_by, line_of, by_question, fault_of, first_fault, by_line, room_verdict, verdict}
 use Rattle.changes.specs.TopLine.{outside_line, repeat_line, earlier_than, one_by_one, top_line, TopLineFirst}
 use Rattle.changes.proofs.ComparedLaws.{and_false, raised, RunsAlike, IsRaised, compared}
 

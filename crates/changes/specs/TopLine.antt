@@ -5,7 +5,7 @@ use Rattle.lines.specs.Fields.{or_zero}
 use Rattle.layout.specs.declared.Head.{Head}
 use Rattle.layout.specs.Layout.{term_lines, sheet_ops}
 use Rattle.questions.specs.Verdict.{Verdict}
-use Rattle.questions.specs.Questions.{question11, question5, question6, first_no, refused_or, line_of, by_question, room_verdict}
+use Rattle.questions.specs.Questions.{question5, question6, question11, first_no, refused_or, line_of, by_question, room_verdict}
 use Rattle.changes.specs.Compared.{Change, Compared}
 
 -- the first line with a qubit outside, and the first with a repeat

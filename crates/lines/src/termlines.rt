@@ -33,6 +33,7 @@ fn is_factor(p: &[u8]) -> bool
 }
 
 // Whether every text between the commas of f is a factor. No text has no factors.
+// Each function that goes through the factors tests for no text: no function can hand out the parts, as `impl Iterator` gets no proof.
 fn are_factors(f: &[u8]) -> bool
     ensures { result ≡ are_factors (factor_texts f.now) }
 {
