@@ -9,7 +9,7 @@ use lib.ListN.{length, take, replicate, length-take}
 use lib.Seq.{get_or-take}
 use lib.Ieee.{Float, nan}
 use borrow.Author.Tests.{le-leb, leb-true}
-use Rattle.std.specs.Prelude.{Option, None, Some, Result}
+use Rattle.std.specs.Prelude.{None, Result}
 use Rattle.words.specs.Keys.{width_of}
 use Rattle.words.specs.Rows.{key_at}
 use Rattle.terms.specs.Lists.{tab}
@@ -33,7 +33,7 @@ use Rattle.layout.proofs.LaidLaws.{op_list_length}
 use Rattle.layout.proofs.LoadLaws.{rows_hold, ops_loaded, lines_loaded, lines_keys_long, lines_weights_long}
 use Rattle.replies.specs.declared.Reply.{Reply}
 use Rattle.questions.specs.Verdict.{Verdict, RefusedAt, Passed}
-use Rattle.questions.specs.Questions.{question2, line_of, refused_or, verdict, early_verdict, later_verdict}
+use Rattle.questions.specs.Questions.{question2, verdict, early_verdict, later_verdict}
 use Rattle.questions.proofs.VerdictLaws.{early_laid, early_passed, early_refused}
 use Rattle.sheet.specs.Answer.{limits_of, refusal, task_of, run_of, reply_to, reply_of, LeavesBy, Leaves, Answered}
 use Rattle.sheet.specs.Running.{LinesRoom, Sound, reply_end, table_task, table_run, Runnable, Ended, Replied}
