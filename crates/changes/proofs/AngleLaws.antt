@@ -10,9 +10,8 @@ use Rattle.terms.proofs.CaseLaws.{and_true}
 use Rattle.lines.specs.Fields.{or_zero}
 use Rattle.layout.specs.declared.Head.{Head}
 use Rattle.layout.specs.Layout.{question1, term_lines, sheet_ops}
-use Rattle.questions.specs.declared.Asked.TheVariants.{Two, Three, Four}
 use Rattle.questions.specs.Verdict.{Verdict, RefusedAt, Passed}
-use Rattle.questions.specs.Questions.{question5, question6, question7, refused_or, refused_by, line_of, fault_of, first_fault, by_line, room_verdict, verdict}
+use Rattle.questions.specs.Questions.{question2, question3, question4, question5, question6, question7, refused_or, refused_by, line_of, fault_of, first_fault, by_line, room_verdict, verdict}
 use Rattle.questions.proofs.LineLaws.{Above, line_above, laid_above}
 use Rattle.changes.specs.NoAngle.{unasked, earlier, broken_line, no_angle, AnglesOnly}
 use Rattle.changes.proofs.ComparedLaws.{and_false, raised, RunsAlike, IsRaised, compared}
@@ -78,13 +77,13 @@ verdict_raised : IsRaised no_angle
 unfolding verdict unasked
 verdict_raised h ls rows places =
     let v = by_line h ls (room_verdict h rows places) in
-    let b = line_of Two h ls in
-    let c = line_of Three h ls in
-    let d = line_of Four h ls in
+    let b = line_of (question2 h) h ls in
+    let c = line_of (question3 h) h ls in
+    let d = line_of (question4 h) h ls in
     past h ls 1 (question1 h ls) (refused_or 2 b (refused_or 3 c (refused_or 4 d v))) _ refl (laid_above h ls)
-    (past h ls 2 b (refused_or 3 c (refused_or 4 d v)) _ refl (line_above Two h ls)
-    (past h ls 3 c (refused_or 4 d v) _ refl (line_above Three h ls)
-    (past h ls 4 d v _ refl (line_above Four h ls) (here h ls v (late_lines h ls (room_verdict h rows places) (late_room h rows places))))))
+    (past h ls 2 b (refused_or 3 c (refused_or 4 d v)) _ refl (line_above (question2 h) h ls)
+    (past h ls 3 c (refused_or 4 d v) _ refl (line_above (question3 h) h ls)
+    (past h ls 4 d v _ refl (line_above (question4 h) h ls) (here h ls v (late_lines h ls (room_verdict h rows places) (late_room h rows places))))))
 
 -- a run's refusal stands at line 0
 runs_alike : RunsAlike no_angle

@@ -12,9 +12,8 @@ use Rattle.lines.specs.Fields.{or_zero}
 use Rattle.lines.specs.TermLines.{line_on}
 use Rattle.layout.specs.declared.Head.{Head}
 use Rattle.layout.specs.Layout.{question1, term_lines, sheet_ops}
-use Rattle.questions.specs.declared.Asked.TheVariants.{Two, Three, Four, Eleven}
 use Rattle.questions.specs.Verdict.{Verdict, RefusedAt, Passed}
-use Rattle.questions.specs.Questions.{question5, question6, question7, ◌or_else◌, first_of, refused_or, refused_by, line_of, by_question, fault_of, first_fault, by_line, room_verdict, verdict}
+use Rattle.questions.specs.Questions.{question2, question3, question4, question5, question6, question7, question11, ◌or_else◌, first_of, refused_or, refused_by, line_of, by_question, fault_of, first_fault, by_line, room_verdict, verdict}
 use Rattle.changes.specs.TopLine.{outside_line, repeat_line, earlier_than, one_by_one, top_line, TopLineFirst}
 use Rattle.changes.proofs.ComparedLaws.{and_false, raised, RunsAlike, IsRaised, compared}
 
@@ -119,9 +118,9 @@ room_raised h ls rows places = go (question7 h rows places)
 
 questions_raised : (h : Head) (ls : List (List ℕ)) (v : Verdict) → by_question h ls (raised top_line h ls v) ≡ raised top_line h ls (by_question h ls v)
 questions_raised h ls v =
-    let b = line_of Two h ls in
-    let c = line_of Three h ls in
-    let d = line_of Four h ls in
+    let b = line_of (question2 h) h ls in
+    let c = line_of (question3 h) h ls in
+    let d = line_of (question4 h) h ls in
     sym (raised_past h ls 1 (question1 h ls) (refused_or 2 b (refused_or 3 c (refused_or 4 d v))) refl
     ∙ ap (refused_or 1 (question1 h ls)) (raised_past h ls 2 b (refused_or 3 c (refused_or 4 d v)) refl
     ∙ ap (refused_or 2 b) (raised_past h ls 3 c (refused_or 4 d v) refl
@@ -132,7 +131,7 @@ unfolding verdict one_by_one
 verdict_raised h ls rows places =
     let v = room_verdict h rows places in
     let w = refused_or 5 (outside_line h ls) (refused_or 6 (repeat_line h ls) v) in
-    let e = line_of Eleven h ls in
+    let e = line_of question11 h ls in
     ap (λ (u : Verdict). by_question h ls (refused_or 11 e u)) (by_line_is h ls v ∙ top_raised h ls v (room_raised h ls rows places))
     ∙ ap (by_question h ls) (sym (raised_past h ls 11 e w refl)) ∙ questions_raised h ls (refused_or 11 e w)
 

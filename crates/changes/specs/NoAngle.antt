@@ -3,9 +3,8 @@
 use Rattle.std.specs.Prelude.{ℕ, Bool, not, ◌&&◌, List, leb, ltb, Option, is_some}
 use Rattle.lines.specs.Fields.{or_zero}
 use Rattle.layout.specs.declared.Head.{Head}
-use Rattle.questions.specs.declared.Asked.TheVariants.{Eleven}
 use Rattle.questions.specs.Verdict.{Verdict}
-use Rattle.questions.specs.Questions.{line_of, by_question, by_line, room_verdict}
+use Rattle.questions.specs.Questions.{question11, line_of, by_question, by_line, room_verdict}
 use Rattle.changes.specs.Compared.{Change, Compared}
 
 -- before: 5 and 6 after 4
@@ -18,7 +17,7 @@ earlier n k = leb 1 n && (leb n 4 && ltb 0 k)
 
 -- the first op that breaks it
 abbrev pub broken_line : Head → List (List ℕ) → Option ℕ
-broken_line h ls = line_of Eleven h ls
+broken_line h ls = line_of question11 h ls
 
 abbrev pub breaks : Head → List (List ℕ) → ℕ → ℕ → Bool
 breaks h ls n k = is_some (broken_line h ls) && not (earlier n k)

@@ -4,9 +4,8 @@ use Rattle.std.specs.Prelude.{ℕ, Bool, false, ◌&&◌, List, eqb, ltb, Option
 use Rattle.lines.specs.Fields.{or_zero}
 use Rattle.layout.specs.declared.Head.{Head}
 use Rattle.layout.specs.Layout.{term_lines, sheet_ops}
-use Rattle.questions.specs.declared.Asked.TheVariants.{Eleven}
 use Rattle.questions.specs.Verdict.{Verdict}
-use Rattle.questions.specs.Questions.{question5, question6, first_no, refused_or, line_of, by_question, room_verdict}
+use Rattle.questions.specs.Questions.{question5, question6, question11, first_no, refused_or, line_of, by_question, room_verdict}
 use Rattle.changes.specs.Compared.{Change, Compared}
 
 -- the first line with a qubit outside, and the first with a repeat
@@ -20,7 +19,7 @@ repeat_line h ls = first_no question6 h.terms (term_lines h ls) (sheet_ops h ls)
 unfoldable pub one_by_one : Head → List (List ℕ) → ℕ → ℕ → Verdict
 one_by_one h ls rows places =
     by_question h ls
-    (refused_or 11 (line_of Eleven h ls)
+    (refused_or 11 (line_of question11 h ls)
     (refused_or 5 (outside_line h ls)
     (refused_or 6 (repeat_line h ls) (room_verdict h rows places))))
 

@@ -16,7 +16,7 @@ use std::io;
 use std::io::{Read, Write};
 use writing::write_text;
 
-// So many bytes were read, and the text for them has so many.
+// So many bytes were read, and the text for them has so many bytes.
 #[derive(Clone, Copy)]
 pub struct Told {
     pub read: usize,

@@ -7,6 +7,7 @@ use std::io::{ErrorKind, Write};
 pub(crate) fn write_text<W: Write>(to: &mut W, text: &[u8]) -> bool
     ensures { WritesText (W.contents to.old) (W.contents to.new) text.now result }
 {
+    // A loop of its own: std's `write_all` says nothing of the bytes that were taken before an Err, and the contract needs them.
     let mut at = 0;
     for _ in 0..u64::MAX {
         if at == text.len() {

@@ -20,6 +20,7 @@ pub fn read_input<R: Read>(reader: &mut R, buf: &mut [u8]) -> io::Result<usize>
     ensures held { Held buf.new result }
     ensures bytes { HoldsFront (R.remaining reader.old) (R.remaining reader.new) buf.new result }
 {
+    // A `while`: a read says how far it goes, so that the places where reads start are not known before.
     let mut at = 0;
     while at < buf.len() {
         let n = read_at(reader, buf, at)?;

@@ -1,4 +1,5 @@
 // The values of the lines `qubits` to `terms`, and `ops`.
+// The defaults 0 and `full` are the definitions': a head of any text has values, and question 1 refuses a text without them.
 ghost use Rattle.std.specs.Prelude.{◌≡◌};
 ghost use Rattle.text.specs.Bytes.{bytes, parts, newline};
 ghost use Rattle.lines.specs.Fields.{count, real_field, run_field, or_zero, or_zero_real, or_full};

@@ -4,29 +4,23 @@ ghost use Rattle.lines.specs.Fields.{count, real_field, run_field};
 
 use ops::Run;
 use text::decimals::read_decimal;
-use text::parts::{is_text, part_from, starts_with};
+use text::parts::is_text;
 use text::reals::read_real;
 
 // The count on a line that starts with the key k.
+#[tactic(auto, using(text::proofs::PartLaws::begins_stripped))]
 pub fn read_count(l: &[u8], k: &[u8]) -> Option<usize>
     ensures { result ≡ count k.now l.now }
 {
-    if starts_with(l, k) {
-        read_decimal(part_from(l, k.len()))
-    } else {
-        None
-    }
+    read_decimal(l.strip_prefix(k)?)
 }
 
 // The real number on a line that starts with the key k.
+#[tactic(auto, using(text::proofs::PartLaws::begins_stripped))]
 pub fn read_real_field(l: &[u8], k: &[u8]) -> Option<f64>
     ensures { result ≡ real_field k.now l.now }
 {
-    if starts_with(l, k) {
-        read_real(part_from(l, k.len()))
-    } else {
-        None
-    }
+    read_real(l.strip_prefix(k)?)
 }
 
 // The run that the line `run` names.

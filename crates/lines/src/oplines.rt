@@ -11,6 +11,7 @@ use text::reals::read_real;
 use words::Gate;
 
 // The two targets or the one target that t spells. One target has 0 beside it.
+// The 0 is a default that the definition has, so that `op_from` takes one form of targets for every name.
 fn read_targets(two: bool, t: &[u8]) -> Option<(usize, usize)>
     ensures { result ≡ targets_in two t.now }
 {
@@ -24,6 +25,7 @@ fn read_targets(two: bool, t: &[u8]) -> Option<(usize, usize)>
 }
 
 // The n reals that r spells. Those that are not asked for are 0.
+// The zeros are defaults that the definition has, so that `op_from` takes one form of reals for every name.
 fn read_reals(n: usize, r: &[u8]) -> Option<(f64, f64, f64)>
     ensures { result ≡ reals_in n r.now }
 {
@@ -94,6 +96,7 @@ pub fn is_op_line(l: &[u8]) -> bool
 }
 
 // The op on an `op` line, or the gate id on qubit 0.
+// The default is the definition's: the lines that this is put to were read as `op` lines before, by question 1.
 pub fn op_on(l: &[u8]) -> Op
     ensures { result ≡ op_on l.now }
 {

@@ -10,6 +10,7 @@ use text::reals::read_real;
 use words::keys::set_bit;
 
 // The first byte, or 0.
+// The default is the definition's: a factor that was read before has a first byte.
 fn first_byte(p: &[u8]) -> u8
     ensures { result ≡ get_or p.now 0 0 }
 {
@@ -17,6 +18,7 @@ fn first_byte(p: &[u8]) -> u8
 }
 
 // The number after the first byte: the qubit of a factor.
+// The default 0 is the definition's: a factor that was read before has a qubit.
 fn qubit_of(p: &[u8]) -> usize
     ensures { result ≡ (factor_of p.now).qubit }
 {
@@ -31,6 +33,7 @@ fn is_factor(p: &[u8]) -> bool
 }
 
 // Whether every text between the commas of f is a factor. No text has no factors.
+// Each function that goes through the factors tests for no text: no function can hand out the parts, as `impl Iterator` gets no proof.
 fn are_factors(f: &[u8]) -> bool
     ensures { result ≡ are_factors (factor_texts f.now) }
 {
@@ -54,6 +57,7 @@ pub fn is_term_line(l: &[u8]) -> bool
 }
 
 // The weight on a `term` line, or 0.
+// The default is the definition's: a line that was read before, by question 1, has a weight.
 pub fn weight_on(l: &[u8]) -> f64
     ensures { result ≡ weight_on l.now }
 {

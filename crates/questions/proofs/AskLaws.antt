@@ -13,8 +13,8 @@ use Rattle.layout.specs.Layout.{term_lines, sheet_ops}
 use Rattle.questions.specs.declared.Asked.{Asked}
 use Rattle.questions.specs.declared.Asked.TheVariants.{Two, Three, Four, FiveAndSix, Eleven}
 use Rattle.questions.specs.Verdict.{Verdict, RefusedAt, Passed, verdict_of}
-use Rattle.questions.specs.Questions.{Question, question_of, first_of, unless, ◌or_else◌, head_line, ops_line, line_of, refused_or, refused_by, first_fault, by_line}
-use Rattle.questions.specs.Asking.{number, number_unless, head_verdict, term_verdict, count_verdict, op_verdict, asked_verdict}
+use Rattle.questions.specs.Questions.{question2, question3, question4, question11, Question, first_of, unless, ◌or_else◌, head_line, ops_line, line_of, refused_or, refused_by, first_fault, by_line}
+use Rattle.questions.specs.Asking.{question_of, number, number_unless, head_verdict, term_verdict, count_verdict, op_verdict, asked_verdict}
 
 -- ---- a step puts a question, and where it passes, the next
 -- v, and where it passes w
@@ -106,15 +106,15 @@ asked_is n q t ts os v =
     ∙ joined n (head_line q) (first_of q.term 7 ts or_else ops_line q t os) v
 
 module _ (h : Head) (ls : List (List ℕ)) (v : Verdict) where
-  two_is : asked_verdict Two h ls v ≡ refused_or 2 (line_of Two h ls) v
+  two_is : asked_verdict Two h ls v ≡ refused_or 2 (line_of (question2 h) h ls) v
   two_is = asked_is 2 (question_of Two h) h.terms (term_lines h ls) (sheet_ops h ls) v
 
   pub later_is : asked_verdict Three h ls (asked_verdict Four h ls (asked_verdict Eleven h ls (asked_verdict FiveAndSix h ls v)))
-      ≡ refused_or 3 (line_of Three h ls) (refused_or 4 (line_of Four h ls) (refused_or 11 (line_of Eleven h ls) (by_line h ls v)))
+      ≡ refused_or 3 (line_of (question3 h) h ls) (refused_or 4 (line_of (question4 h) h ls) (refused_or 11 (line_of question11 h ls) (by_line h ls v)))
   later_is =
       ap (λ (x : Verdict). asked_verdict Three h ls (asked_verdict Four h ls x)) (asked_is 11 (question_of Eleven h) h.terms (term_lines h ls) (sheet_ops h ls) (by_line h ls v))
-      ∙ ap (asked_verdict Three h ls) (asked_is 4 (question_of Four h) h.terms (term_lines h ls) (sheet_ops h ls) (refused_or 11 (line_of Eleven h ls) (by_line h ls v)))
-      ∙ asked_is 3 (question_of Three h) h.terms (term_lines h ls) (sheet_ops h ls) (refused_or 4 (line_of Four h ls) (refused_or 11 (line_of Eleven h ls) (by_line h ls v)))
+      ∙ ap (asked_verdict Three h ls) (asked_is 4 (question_of Four h) h.terms (term_lines h ls) (sheet_ops h ls) (refused_or 11 (line_of question11 h ls) (by_line h ls v)))
+      ∙ asked_is 3 (question_of Three h) h.terms (term_lines h ls) (sheet_ops h ls) (refused_or 4 (line_of (question4 h) h ls) (refused_or 11 (line_of question11 h ls) (by_line h ls v)))
 
 -- ---- question 2 asks nothing of a `term` or an `op` line
 none_asked : {A : Type 0} (k : ℕ) (l : List A) (v : Verdict) → first_fault (λ a. None) k l v ≡ v
@@ -122,7 +122,7 @@ unfolding first_fault
 none_asked k [] v = refl
 none_asked k (a ∷ l) v = none_asked (suc k) l v
 
-pub second_is : (h : Head) (ls : List (List ℕ)) (v : Verdict) → head_verdict Two h (count_verdict Two h v) ≡ refused_or 2 (line_of Two h ls) v
+pub second_is : (h : Head) (ls : List (List ℕ)) (v : Verdict) → head_verdict Two h (count_verdict Two h v) ≡ refused_or 2 (line_of (question2 h) h ls) v
 second_is h ls v =
     ap (λ (x : Verdict). head_verdict Two h (count_verdict Two h x)) (sym (none_asked (8 + h.terms) (sheet_ops h ls) v))
     ∙ ap (head_verdict Two h) (sym (none_asked 7 (term_lines h ls) (count_verdict Two h (op_verdict Two h ls v)))) ∙ two_is h ls v

@@ -1,3 +1,4 @@
 pub mod WalkLaws
 pub mod AskLaws
 pub mod LineLaws
+pub mod VerdictLaws

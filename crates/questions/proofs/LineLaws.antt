@@ -8,8 +8,7 @@ use Rattle.std.specs.Prelude.{Option, None, Some}
 use Rattle.layout.specs.declared.Head.{Head}
 use Rattle.layout.specs.Layout.{question1, term_lines, sheet_ops}
 use Rattle.layout.proofs.LaidLaws.{question1_above}
-use Rattle.questions.specs.declared.Asked.{Asked}
-use Rattle.questions.specs.Questions.{question_of, first_of, ◌or_else◌, unless, head_line, ops_line, line_of}
+use Rattle.questions.specs.Questions.{Question, first_of, ◌or_else◌, unless, head_line, ops_line, line_of}
 
 -- none, or a line from 1 on
 abbrev pub Above : Option ℕ → Type 0
@@ -33,9 +32,8 @@ first_above p k (a ∷ l) h = go (p a) (first_above p (suc k) l (omega arith))
     go true e = e
     go false e = h
 
-pub line_above : (a : Asked) (h : Head) (ls : List (List ℕ)) → Above (line_of a h ls)
-line_above a h ls =
-    let q = question_of a h in
+pub line_above : (q : Question) (h : Head) (ls : List (List ℕ)) → Above (line_of q h ls)
+line_above q h ls =
     let t = h.terms in
     or_above (head_line q) _
     (or_above (unless q.qubits 1) _ (unless_above q.qubits 1 (omega arith))

@@ -1,13 +1,25 @@
 -- Words of the private contracts: how the questions are asked.
-use Rattle.std.specs.Prelude.{ℕ, ◌+◌, Bool, cond, List, Option, None, Some}
+use Rattle.std.specs.Prelude.{ℕ, ◌+◌, Bool, cond, ◌&&◌, List, Option, None, Some}
 use Rattle.ops.specs.declared.Op.{Op}
+use Rattle.ops.specs.Task.{distinct_targets}
 use Rattle.layout.specs.declared.Head.{Head}
 use Rattle.layout.specs.Layout.{term_lines, sheet_ops}
-use Rattle.lines.specs.TermLines.{TermLine}
+use Rattle.lines.specs.TermLines.{TermLine, all_below, distinct}
 use Rattle.questions.specs.declared.Asked.{Asked}
 use Rattle.questions.specs.declared.Asked.TheVariants.{Two, Three, Four, FiveAndSix, Eleven}
 use Rattle.questions.specs.Verdict.{Verdict}
-use Rattle.questions.specs.Questions.{question_of, unless, head_line, refused_or, term_fault, op_fault, first_fault}
+use Rattle.questions.specs.Questions.{Question, question2, question3, question4, of_qubits, question11, unless, head_line, refused_or, term_fault, op_fault, first_fault}
+
+-- 5 and 6
+abbrev pub question56 : Head → Question
+question56 h = of_qubits (λ qs. all_below h.qubits qs && distinct qs) (λ qs. all_below h.qubits qs && distinct_targets qs)
+
+abbrev pub question_of : Asked → Head → Question
+question_of Two h = question2 h
+question_of Three h = question3 h
+question_of Four h = question4 h
+question_of FiveAndSix h = question56 h
+question_of Eleven h = question11
 
 -- the number of the question that refuses a line of the head, where 5 and 6 ask of none
 abbrev pub number : Asked → ℕ

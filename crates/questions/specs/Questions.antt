@@ -12,8 +12,6 @@ use Rattle.ops.specs.Task.{not_channel, reals_fit, pair_holds, distinct_targets}
 use Rattle.layout.specs.declared.Head.{Head}
 use Rattle.lines.specs.TermLines.{TermLine, qubits_in, all_below, distinct}
 use Rattle.layout.specs.Layout.{question1, term_lines, sheet_ops}
-use Rattle.questions.specs.declared.Asked.{Asked}
-use Rattle.questions.specs.declared.Asked.TheVariants.{Two, Three, Four, FiveAndSix, Eleven}
 use Rattle.questions.specs.Verdict.{Verdict, RefusedAt, Passed}
 
 -- what a question asks of each line that it speaks of
@@ -118,17 +116,6 @@ question5 h = of_qubits (all_below h.qubits) (all_below h.qubits)
 abbrev pub question6 : Question
 question6 = of_qubits distinct distinct_targets
 
--- both
-abbrev pub question56 : Head → Question
-question56 h = of_qubits (λ qs. all_below h.qubits qs && distinct qs) (λ qs. all_below h.qubits qs && distinct_targets qs)
-
-abbrev pub question_of : Asked → Head → Question
-question_of Two h = question2 h
-question_of Three h = question3 h
-question_of Four h = question4 h
-question_of FiveAndSix h = question56 h
-question_of Eleven h = question11
-
 -- ---- 7. "Are there at least 2 × limit rows, and for `all` as many mean places as qubits?"
 abbrev pub places_fit : Run → ℕ → ℕ → Bool
 places_fit Full qubits places = true
@@ -171,8 +158,8 @@ abbrev pub refused_or : ℕ → Option ℕ → Verdict → Verdict
 refused_or n None v = v
 refused_or n (Some k) v = RefusedAt n k
 
-abbrev pub line_of : Asked → Head → List (List ℕ) → Option ℕ
-line_of a h ls = first_no (question_of a h) h.terms (term_lines h ls) (sheet_ops h ls)
+abbrev pub line_of : Question → Head → List (List ℕ) → Option ℕ
+line_of q h ls = first_no q h.terms (term_lines h ls) (sheet_ops h ls)
 
 abbrev pub room_verdict : Head → ℕ → ℕ → Verdict
 room_verdict h rows places = cond (question7 h rows places) Passed (RefusedAt 7 0)
@@ -181,9 +168,9 @@ room_verdict h rows places = cond (question7 h rows places) Passed (RefusedAt 7 
 abbrev pub by_question : Head → List (List ℕ) → Verdict → Verdict
 by_question h ls v =
     refused_or 1 (question1 h ls)
-    (refused_or 2 (line_of Two h ls)
-    (refused_or 3 (line_of Three h ls)
-    (refused_or 4 (line_of Four h ls) v)))
+    (refused_or 2 (line_of (question2 h) h ls)
+    (refused_or 3 (line_of (question3 h) h ls)
+    (refused_or 4 (line_of (question4 h) h ls) v)))
 
 -- ---- 5 and 6: "They are now put line by line, 5 before 6 on one line." (2026-01)
 
@@ -212,14 +199,14 @@ by_line h ls v = first_fault (term_fault h) 7 (term_lines h ls) (first_fault (op
 
 unfoldable pub verdict : Head → List (List ℕ) → ℕ → ℕ → Verdict
 unfolding first_fault
-verdict h ls rows places = by_question h ls (refused_or 11 (line_of Eleven h ls) (by_line h ls (room_verdict h rows places)))
+verdict h ls rows places = by_question h ls (refused_or 11 (line_of question11 h ls) (by_line h ls (room_verdict h rows places)))
 
 -- questions 1 and 2, and then the others
 abbrev pub early_verdict : Head → List (List ℕ) → Verdict
-early_verdict h ls = refused_or 1 (question1 h ls) (refused_or 2 (line_of Two h ls) Passed)
+early_verdict h ls = refused_or 1 (question1 h ls) (refused_or 2 (line_of (question2 h) h ls) Passed)
 
 abbrev pub later_verdict : Head → List (List ℕ) → ℕ → ℕ → Verdict
 later_verdict h ls rows places =
-    refused_or 3 (line_of Three h ls)
-    (refused_or 4 (line_of Four h ls)
-    (refused_or 11 (line_of Eleven h ls) (by_line h ls (room_verdict h rows places))))
+    refused_or 3 (line_of (question3 h) h ls)
+    (refused_or 4 (line_of (question4 h) h ls)
+    (refused_or 11 (line_of question11 h ls) (by_line h ls (room_verdict h rows places))))

@@ -34,8 +34,8 @@ pub(crate) fn ask_head(asked: Asked, head: Head) -> Result<(), Refused>
     } = head;
     match asked {
         Asked::Two => {
-            Refused::unless(1 <= qubits && qubits <= 256, Refusal::Counts, 1)?;
-            Refused::unless(1 <= limit && limit <= 1_048_576, Refusal::Counts, 5)?;
+            Refused::unless((1..=256).contains(&qubits), Refusal::Counts, 1)?;
+            Refused::unless((1..=1_048_576).contains(&limit), Refusal::Counts, 5)?;
             Refused::unless(terms <= 1024 && terms <= limit, Refusal::Counts, 6)
         }
         Asked::Three => Refused::unless(count_fits(run, terms), Refusal::RunLines, 6),

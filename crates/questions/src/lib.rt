@@ -27,6 +27,7 @@ pub enum Asked {
 }
 
 // The first question that is answered no, and its line, counted from 1; line 0 where it is of no line.
+// The 0 is the document's line of a refusal that is of no line, and the number that is printed.
 #[derive(Clone, Copy, PartialEq, Eq)]
 pub struct Refused {
     pub by: Refusal,

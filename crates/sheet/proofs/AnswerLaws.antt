@@ -9,7 +9,7 @@ use lib.ListN.{length, take, replicate, length-take}
 use lib.Seq.{get_or-take}
 use lib.Ieee.{Float, nan}
 use borrow.Author.Tests.{le-leb, leb-true}
-use Rattle.std.specs.Prelude.{Option, None, Some, Result}
+use Rattle.std.specs.Prelude.{None, Result}
 use Rattle.words.specs.Keys.{width_of}
 use Rattle.words.specs.Rows.{key_at}
 use Rattle.terms.specs.Lists.{tab}
@@ -32,37 +32,13 @@ use Rattle.layout.specs.Loaded.{with_ops, LinesLoaded}
 use Rattle.layout.proofs.LaidLaws.{op_list_length}
 use Rattle.layout.proofs.LoadLaws.{rows_hold, ops_loaded, lines_loaded, lines_keys_long, lines_weights_long}
 use Rattle.replies.specs.declared.Reply.{Reply}
-use Rattle.questions.specs.declared.Asked.TheVariants.{Two}
 use Rattle.questions.specs.Verdict.{Verdict, RefusedAt, Passed}
-use Rattle.questions.specs.Questions.{question2, line_of, refused_or, verdict, early_verdict, later_verdict}
+use Rattle.questions.specs.Questions.{question2, verdict, early_verdict, later_verdict}
+use Rattle.questions.proofs.VerdictLaws.{early_laid, early_passed, early_refused}
 use Rattle.sheet.specs.Answer.{limits_of, refusal, task_of, run_of, reply_to, reply_of, LeavesBy, Leaves, Answered}
 use Rattle.sheet.specs.Running.{LinesRoom, Sound, reply_end, table_task, table_run, Runnable, Ended, Replied}
 use Rattle.sheet.proofs.PassLaws.{Yes, answers_of, yes_of, passed_passes}
 use Rattle.sheet.proofs.OutcomeLaws.{reply_of_end}
-
--- ---- questions 1 and 2, and then the others
-pub early_laid : (h : Head) (ls : List (List ℕ)) → early_verdict h ls ≡ Passed → (question1 h ls ≡ None) × (line_of Two h ls ≡ None)
-early_laid h ls e = go (question1 h ls) (line_of Two h ls) e
-  where
-    go : (a b : Option ℕ) → refused_or 1 a (refused_or 2 b Passed) ≡ Passed → (a ≡ None) × (b ≡ None)
-    go None None e = (refl, refl)
-    go None (Some k) e = absurd (cc)
-    go (Some k) b e = absurd (cc)
-
-pub early_passed : (h : Head) (ls : List (List ℕ)) (rows places : ℕ) → early_verdict h ls ≡ Passed → verdict h ls rows places ≡ later_verdict h ls rows places
-unfolding verdict
-early_passed h ls rows places e =
-    let s = early_laid h ls e in
-    ap (λ (x : Option ℕ). refused_or 1 x (refused_or 2 (line_of Two h ls) (later_verdict h ls rows places))) s.0 ∙ ap (λ (x : Option ℕ). refused_or 2 x (later_verdict h ls rows places)) s.1
-
-pub early_refused : (h : Head) (ls : List (List ℕ)) (rows places n k : ℕ) → early_verdict h ls ≡ RefusedAt n k → verdict h ls rows places ≡ RefusedAt n k
-unfolding verdict
-early_refused h ls rows places n k e = go (question1 h ls) (line_of Two h ls) e
-  where
-    go : (a b : Option ℕ) → refused_or 1 a (refused_or 2 b Passed) ≡ RefusedAt n k → refused_or 1 a (refused_or 2 b (later_verdict h ls rows places)) ≡ RefusedAt n k
-    go None None e = absurd (cc)
-    go None (Some j) e = e
-    go (Some j) b e = e
 
 -- what a sheet that passed 1 and 2 has, and the table with its ops
 pub laid_sound : (h : Head) (ls : List (List ℕ)) (os : List Op) → h.ops ≤ length os → early_verdict h ls ≡ Passed → Sound h ls (take h.ops (with_ops h ls os))

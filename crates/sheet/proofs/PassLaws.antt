@@ -29,7 +29,6 @@ use Rattle.lines.proofs.WordLaws.{letters_of_word}
 use Rattle.layout.specs.declared.Head.{Head}
 use Rattle.layout.specs.Layout.{head_of, question1, term_lines, sheet_ops}
 use Rattle.layout.proofs.LaidLaws.{term_lines_length, op_list_length}
-use Rattle.questions.specs.declared.Asked.TheVariants.{Two, Three, Four, Eleven}
 use Rattle.questions.specs.Verdict.{Verdict, RefusedAt, Passed}
 use Rattle.questions.specs.Questions.{Question, question2, question3, question4, question11, question5, question6, question7}
 use Rattle.questions.specs.Questions.{count_fits, weight_fits, channel_fits, places_fit, ◌or_else◌, unless, first_of, head_line, ops_line, first_no, refused_or, refused_by, line_of, fault_of, first_fault, op_fault, room_verdict, verdict}
@@ -71,10 +70,10 @@ pub record Yes (q : Question) (ls : List TermLine) (os : List Op) : Type 0 where
 -- no question fails
 pub record Answers (h : Head) (ls : List (List ℕ)) (rows places : ℕ) : Type 0 where
   pub laid : question1 h ls ≡ None
-  pub two : line_of Two h ls ≡ None
-  pub three : line_of Three h ls ≡ None
-  pub four : line_of Four h ls ≡ None
-  pub eleven : line_of Eleven h ls ≡ None
+  pub two : line_of (question2 h) h ls ≡ None
+  pub three : line_of (question3 h) h ls ≡ None
+  pub four : line_of (question4 h) h ls ≡ None
+  pub eleven : line_of question11 h ls ≡ None
   pub five : Yes (question5 h) (term_lines h ls) (sheet_ops h ls)
   pub six : Yes question6 (term_lines h ls) (sheet_ops h ls)
   pub room : question7 h rows places ≡ true

@@ -28,7 +28,7 @@ use Rattle.sheet.specs.Answer.{refusal, run_of, task_of, reply_run, reply_to, re
 use Rattle.sheet.specs.Running.{means_count}
 use Rattle.sheet.specs.Screen.{bench}
 use Rattle.sheet.proofs.PassLaws.{yes_of}
-use Rattle.sheet.proofs.AnswerLaws.{early_laid, early_refused}
+use Rattle.questions.proofs.VerdictLaws.{early_laid, early_refused}
 use Rattle.sheet.proofs.OutcomeLaws.{HasMeans, outcome_means}
 
 -- ---- 512 rows

@@ -48,7 +48,7 @@ fn answer_passed(
     reply_end(head.run, head.qubits, t_count, end)
 }
 
-// A sheet that passed questions 1 and 2, in a table that has room for its ops and its lines.
+// A sheet that passed questions 1 and 2, with a slice that has room for its ops and a table that has room for its lines.
 fn answer_in(
     sheet: Sheet<'_>,
     ops: &mut [Op],
@@ -78,7 +78,7 @@ fn answer_in(
     }
 }
 
-// A sheet that passed questions 1 and 2, in a table for so many ops and lines, of 8 words each.
+// A sheet that passed questions 1 and 2, with a slice for so many ops and a table for so many lines, of 8 words each.
 fn answer_table<const OPS: usize, const WORDS: usize, const LINES: usize>(
     sheet: Sheet<'_>,
     words: &mut [u64],
@@ -108,7 +108,7 @@ fn answer_table<const OPS: usize, const WORDS: usize, const LINES: usize>(
     )
 }
 
-// A sheet that passed questions 1 and 2. Setting a table for 4,096 ops takes longer than most sheets of at most 128 ops and 16 lines.
+// A sheet that passed questions 1 and 2. Setting a slice of 4,096 ops takes longer than most sheets of at most 128 ops and 16 lines.
 fn answer_laid(
     sheet: Sheet<'_>,
     words: &mut [u64],

@@ -12,7 +12,7 @@ use runs::observable::{
 use turns::Finished;
 use turns::all::run_spd_lowered;
 
-// The run that the sheet names, of the lines and ops in a table.
+// The run that the sheet names, of the lines in a table and the ops in a slice.
 pub(crate) fn run_table(
     head: Head,
     ops: &[Op],

@@ -150,6 +150,13 @@ begins_starts [] s = refl
 begins_starts (b ∷ k) [] = refl
 begins_starts (b ∷ k) (d ∷ s) = rw (begins_starts k s, swapped b d)
 
+-- what std's `strip_prefix` compares
+pub begins_stripped : (k s : List ℕ) → begins k s ≡ pointwise eqb (take (length k) s) k
+unfolding begins
+begins_stripped [] s = refl
+begins_stripped (b ∷ k) [] = refl
+begins_stripped (b ∷ k) (d ∷ s) = ap (λ (x : Bool). eqb d b && x) (begins_stripped k s)
+
 pub same_pointwise : (k s : List ℕ) → pointwise eqb s k ≡ same k s
 unfolding begins
 same_pointwise [] [] = refl

@@ -1,4 +1,4 @@
--- Somes as texts: how they are read, and how they are spelled.
+-- Numbers as texts: how they are read, and how they are spelled.
 use Rattle.std.specs.Prelude.{ℕ, zero, suc, ◌+◌, ◌-◌, ◌*◌, ◌/◌, ◌%◌, ◌^◌, Bool, cond, ◌&&◌, List, [], ◌∷◌, ◌++◌, Float, Option, Some, None, option_map, ltb, leb, eqb, length}
 use Rattle.std.specs.Float.Ieee.{of_bits}
 use Rattle.std.specs.Float.{binary64}

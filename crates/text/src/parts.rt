@@ -3,6 +3,7 @@ ghost use Rattle.std.specs.Prelude.{◌≡◌, take, drop};
 ghost use Rattle.text.specs.Bytes.{index, before, after, begins, same};
 
 // The index of the first byte c, or the length where there is none.
+// The length is the place where the part before c ends, so callers cut there; with an Option each would write the same default.
 pub fn find(s: &[u8], c: u8) -> usize
     ensures { result ≡ index c s.now }
 {
@@ -40,6 +41,7 @@ pub fn part_to(s: &[u8], n: usize) -> &[u8]
 }
 
 // Whether s starts with the bytes of k.
+// The slice's own test, under the definitions' word `begins`: callers have the fact about `begins` from its contract.
 pub fn starts_with(s: &[u8], k: &[u8]) -> bool
     ensures { result ≡ begins k.now s.now }
 {
@@ -47,6 +49,7 @@ pub fn starts_with(s: &[u8], k: &[u8]) -> bool
 }
 
 // Whether s is k.
+// The slice's own test, under the definitions' word `same`: callers have the fact about `same` from its contract.
 pub fn is_text(s: &[u8], k: &[u8]) -> bool
     ensures { result ≡ same k.now s.now }
 {

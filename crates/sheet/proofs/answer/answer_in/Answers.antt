@@ -1,6 +1,7 @@
 use Rattle.std.proofs.Common.{take, sym, ap, ◌∙◌}
 use Rattle.text.specs.Bytes.{parts, newline}
-use Rattle.sheet.proofs.AnswerLaws.{laid_sound, early_passed, later_is, refused_reply, passed_reply}
+use Rattle.questions.proofs.VerdictLaws.{early_passed}
+use Rattle.sheet.proofs.AnswerLaws.{laid_sound, later_is, refused_reply, passed_reply}
 use Rattle.sheet.proofs.answer.answer_in.Goals as goal
 
 pub invariant_of-laid : goal.invariant_of-laid
