@@ -13,7 +13,8 @@ pub mod start;
 
 use terms::Axis;
 
-// What is looked for from a row.
+// What is looked for from a row. It is an enum and no closure: the word looked for, the rows that an index has and the row that a key hashes with go by the same
+// case, and an index is promised for a case.
 #[derive(Clone, Copy)]
 pub(crate) enum Sought {
     // A row with the same key.

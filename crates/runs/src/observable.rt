@@ -1,4 +1,5 @@
-// The runs of a sum that make their own marks.
+// The runs of a sum that make their own marks. They are four functions of three lines each: one function over a closure that makes the marks would still
+// need a contract and a name for each run.
 ghost use Rattle.ops.specs.Marks.{mark_path};
 ghost use Rattle.turns.specs.SumRuns.{SumRan};
 ghost use Rattle.runs.specs.ConeRuns.{Slices, FullRan, ConeRan, WideRan};
