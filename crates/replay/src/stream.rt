@@ -7,7 +7,7 @@ use sheet::answer::answer;
 use text::parts::{part_after, part_before, part_from, part_to};
 use words::rows::width;
 
-// The reply to a sheet that is longer than the longest: status 1 at line 0. A twin of sheet's own, which is not public.
+// The reply to a sheet that is longer than the longest: status 1 at line 0. The function of sheet that makes it, `refusal`, is not public.
 fn too_long() -> Reply {
     Reply {
         status: 1,

@@ -1,7 +1,8 @@
 // The reply to a sheet, and its text.
 #![tactic(auto)]
 
-// What a sheet is answered. `status`, `line` and `means` stay numbers: they are the document's, and those that are printed. `means` is how many mean places hold a Z mean: as many as qubits for `all`, else 0.
+// What a sheet is answered. `means` is how many mean places hold a Z mean: as many as qubits for `all`, else 0.
+// `status`, `line` and `means` stay numbers: they are the document's, and those that are printed.
 #[derive(Clone, Copy)]
 pub struct Reply {
     pub status: u8,

@@ -39,7 +39,7 @@ impl Page<'_> {
     }
 
     // Writes a number in decimal, without leading zeros: first what stands before its last digit.
-    // It calls itself, as the definition does: a loop would need a buffer for the digits, which come last first.
+    // It calls itself, as the definition does: a loop gets the last digit first, and would need a buffer for the digits.
     pub fn write_decimal(&mut self, n: usize)
         ensures { Writes self.old (nat_text n) self.new }
     {
@@ -57,7 +57,7 @@ impl Page<'_> {
     }
 
     // The last d hexadecimal digits of a number: first what stands before the last of them.
-    // It calls itself, as `hex_text` does; a loop from the first digit on takes other quotients, and its proof a law that joins the two.
+    // It calls itself, as `hex_text` does: a loop from the first digit on has other quotients, and would need a law that joins the two.
     fn write_hex_digits(&mut self, n: u64, d: usize)
         ensures { Writes self.old (hex_text d n) self.new }
     {
