@@ -154,7 +154,7 @@ fn scale_either(words: &[u64], coeffs: &mut [f64], w: usize, i: usize, a: usize,
     }
 }
 
-// A loop of its own: through `scale_rows` it is compiled to a branch for each qubit, and 1,000 depol2 on 1,024 terms take 13.8 ms for 10.4.
+// A loop of its own: through `scale_rows` it is compiled to a branch for each qubit, and 1,000 depol2 on 1,024 terms take 13.8 ms, by this one 11.0.
 fn scale_eithers(words: &[u64], coeffs: &mut [f64], w: usize, n: usize, a: usize, b: usize, f: f64)
     requires { Room (2 * w) n words.now coeffs.old }
     ensures { Holds (2 * w) n n (map (scaled_either w a b f) (terms_in (2 * w) n words.now coeffs.old))
