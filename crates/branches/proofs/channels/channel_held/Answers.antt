@@ -1,8 +1,5 @@
 -- The two kinds of channels.
-use Rattle.std.proofs.Common.{◌*◌, get_or, rules}
-use Rattle.std.specs.Float.{nan}
-use Rattle.branches.specs.Letters.{either_factor}
-use Rattle.branches.proofs.ScalingLaws.{held_by, by_either}
+use Prim.Native.Nat.{◌*◌}
 use borrow.Author.Tests.{leb-true}
 use Rattle.rows.proofs.StepLaws.{rows_room, twice_yes}
 use Rattle.branches.proofs.ChannelRows.{channel_local, channel_pair}
@@ -18,9 +15,5 @@ returns-in-Local c = let a = c.args in
     channel_local a.w a.a a.b a.n a.action a.words.now a.coeffs.now (twice_yes a.w a.n a.words.now a.coeffs.now c.rows_in.ensures c.if-rows_in-n.false) c.in-Local.is e.0 e.1
 
 pub returns-in-Depolarizing2q : goal.returns-in-Depolarizing2q
-returns-in-Depolarizing2q c =
-    let a = c.args in
-    let f = get_or a.action.lambda 0 nan in
-    channel_pair a.w a.a a.b a.n a.action a.words.now a.coeffs.now (twice_yes a.w a.n a.words.now a.coeffs.now c.rows_in.ensures c.if-rows_in-n.false) c.in-Depolarizing2q.is
-    (held_by (2 * a.w) a.n a.words.now a.coeffs.now (by_either a.w a.a a.b f)
-    (c.scale_rows.ensures (either_factor a.w a.a a.b f) (λ i r h e. search rules)))
+returns-in-Depolarizing2q c = let a = c.args in
+    channel_pair a.w a.a a.b a.n a.action a.words.now a.coeffs.now (twice_yes a.w a.n a.words.now a.coeffs.now c.rows_in.ensures c.if-rows_in-n.false) c.in-Depolarizing2q.is c.scale_eithers.ensures
