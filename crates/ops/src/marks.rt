@@ -9,7 +9,7 @@ use crate::{Observable, Op};
 use words::gates::has_two_targets;
 use words::rows::rows_of;
 
-// The targets of an op: none, one or two.
+// The targets of an op: none, one or two. Three cases, so no Option of a pair.
 #[derive(Clone, Copy)]
 pub enum Targets {
     Nothing,

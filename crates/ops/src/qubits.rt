@@ -106,6 +106,7 @@ impl QubitSet {
     }
 }
 
+// Whether a word has a letter at a qubit. It is asked once for each qubit of a line, so a bool serves: rows has a number for it, asked of each row.
 fn has_letter(w: usize, key: &[u64], q: usize) -> bool
     ensures { result ≡ letter_in w key.now q }
 {

@@ -6,7 +6,7 @@ ghost use Rattle.ops.specs.LineTable.{has_lines};
 use crate::Observable;
 use words::rows::rows_of;
 
-// Whether qubits, limit, terms and ops are as many as they may be.
+// Whether qubits, limit, terms and ops are as many as they may be: all four at once, where a sheet is asked line by line (`questions`).
 pub fn counts_fit(qubits: usize, limit: usize, terms: usize, ops: usize) -> bool
     ensures { result ≡ counts_fit qubits limit terms ops }
 {

@@ -48,6 +48,7 @@ fn cosine_t() -> f64
     numbers::bits::of_bits(0x3fe6_a09e_667f_3bcd)
 }
 
+// A rotation about Z at a qubit. Its sine and cosine are parameters here, since this makes the rotation of them.
 fn about_z(q: usize, sin: f64, cos: f64) -> Rotation
     ensures { result ≡ record { axis = Axis.Z q; sin = sin; cos = cos } }
 {
