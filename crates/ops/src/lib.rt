@@ -12,7 +12,8 @@ pub mod targets;
 
 use words::Gate;
 
-// An op of a sheet. A native gate with one target has 0 for the second: the specification has the gate enum within this one, and whether there is a second says the gate; rotations have their sine and cosine, channels their rates.
+// An op of a sheet. A native gate with one target has 0 for the second: the specification has the gate enum within this one, and the gate
+// says whether there is a second. Rotations have their sine and cosine, channels their rates.
 #[derive(Clone, Copy)]
 pub enum Op {
     Native(Gate, usize, usize),
@@ -55,7 +56,9 @@ impl Op {
     // The reals of an op are binary64.
     fn fits64(self)
         ensures { RealsAreBinary64 self }
-    {}
+    {
+        // The type of a parameter says so.
+    }
 }
 
 // The lines of a table: line l has the weight l, and the 2 * w words from l * 2 * w on, for a width of w.
