@@ -1,29 +1,15 @@
--- What the functions on one row compute, for every row number. Assumes nothing.
+-- A row copied to another, for every row number. Assumes nothing.
 use mathlib.Core.Path.{◌≡◌, sym, ap, ap₂, ◌∙◌}
 use mathlib.Core.Bool.{Bool, true, false, cond, ◌&&◌}
 use mathlib.Core.List.{List, append_assoc}
 use Prim.Native.Nat.{ℕ, ◌+◌, ◌-◌, ◌*◌, ◌≤◌}
-use native.Mathlib.Nat.{le_refl}
 use native.Mathlib.Omega.{arith}
 use lib.Dec.{leb}
 use lib.ListN.{length, take, drop}
 use lib.Seq.{paste}
-use lib.Ieee.{Float, nan}
 use borrow.Author.Tests.{le-leb}
-use Rattle.std.specs.Prelude.{Option, unwrap_or}
-use Rattle.std.specs.Option.{option_copied}
-use Rattle.std.specs.Slice.{IsItemAt}
-use Rattle.std.proofs.Common.{Bor}
 use Rattle.words.specs.Rows.{key_at}
-use Rattle.rows.specs.Rows.{coeff_at, put_key, copied_row}
-
--- ---- coefficients
-
--- the number that is there, or a NaN
-pub value_got : (cs : List Float) (k : ℕ) (r : Option (Bor Float)) → IsItemAt cs k r → unwrap_or (option_copied r) nan ≡ coeff_at cs k
-value_got cs k r h = h.4 (le_refl k) nan
-
--- ---- a row copied
+use Rattle.rows.specs.Rows.{put_key, copied_row}
 
 module _ (s : ℕ) (ws : List ℕ) (from to : ℕ) where
   pub copied_in : from * s + s ≤ length ws → to * s + s ≤ length ws → copied_row s ws from to ≡ put_key s ws to (key_at s ws from)

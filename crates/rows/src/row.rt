@@ -1,6 +1,6 @@
 // One row of the two lent buffers. A row has `size` words and one number.
 ghost use Rattle.std.specs.Prelude.{◌≡◌, ◌*◌, ◌/◌, ◌+◌, min, leb};
-ghost use Rattle.rows.specs.Rows.{coeff_at, put_coeff, copied_row};
+ghost use Rattle.rows.specs.Rows.{copied_row};
 
 use words::rows::rows_of;
 
@@ -9,22 +9,6 @@ pub fn rows_in(words: usize, coeffs: usize, w: usize) -> usize
     ensures { result ≡ min (words / (2 * w)) coeffs }
 {
     rows_of(words, w).min(coeffs)
-}
-
-// The number of row k; a NaN past the end.
-pub fn value_at(coeffs: &[f64], k: usize) -> f64
-    ensures { result ≡ coeff_at coeffs.now k }
-{
-    coeffs.get(k).copied().unwrap_or(f64::NAN)
-}
-
-// Another number in row k; past the end nothing changes.
-pub fn store_value(coeffs: &mut [f64], k: usize, x: f64)
-    ensures { coeffs.new ≡ put_coeff coeffs.old k x }
-{
-    if k < coeffs.len() {
-        coeffs[k] = x;
-    }
 }
 
 // Whether row i of `size` words lies whole within `len` words. In 128 bits the product fits.
