@@ -16,7 +16,7 @@ use Rattle.terms.specs.declared.Axis.TheVariants.{Z}
 use Rattle.terms.specs.declared.ChannelAction.{ChannelAction}
 use Rattle.terms.specs.declared.ChannelKind.TheVariants.{Local, Depolarizing2q}
 use Rattle.std.specs.Prelude.{Option, Some, None, is_some}
-use Rattle.terms.specs.Lists.{foldl}
+use Rattle.terms.specs.Lists.{foldl, map_to}
 use Rattle.terms.specs.Coefficient.{scaled_of, plus_of}
 use Rattle.terms.specs.Term.{Term, term, no_term}
 use Rattle.terms.specs.Rotation.{partner_by}
@@ -28,9 +28,9 @@ use Rattle.terms.proofs.FoundLaws.{added_at, is_at, added_row, in_row}
 use Rattle.terms.proofs.IdentityLaws.{branch_now}
 use Rattle.branches.specs.Letters.{letter_of}
 use Rattle.words.specs.Rows.{key_at}
-use Rattle.rows.specs.Rows.{coeff_at, term_at, terms_in, rows_in, put_key, put_coeff, Room, Holds, Grown}
-use Rattle.rows.proofs.RowLaws.{length_key, put_val_same}
-use Rattle.rows.proofs.HoldLaws.{hold_start, hold_at, hold_val, hold_push, hold_wide, hold_trans, room_at, room_less}
+use Rattle.rows.specs.Rows.{coeff_at, term_at, terms_in, rows_in, put_key, put_coeff, Room, Stored, Holds, Grown}
+use Rattle.rows.proofs.RowLaws.{length_key, put_val_same, put_key_same}
+use Rattle.rows.proofs.HoldLaws.{hold_start, hold_at, hold_val, hold_push, hold_map, hold_wide, hold_trans, room_at, room_less}
 use Rattle.rows.proofs.StepLaws.{grown}
 
 -- ---- the letter, from its two bits
@@ -128,19 +128,8 @@ module _ (w q m i : ℕ) (d : Float) (ws : List ℕ) (cs : List Float) (room : R
         rw (in_row k ts ∙ ap is_at (found ∙ e), added_row k d ts ∙ ap (added_at d ts) (found ∙ e), at_j, ec, eu, ev)
         (hold_val (hold_start s m m ws cs) (room_less (omega arith) room) (le_refl m) j h (plus_of (coeff_at cs j) d))
 
--- ---- the identity branch of a row
+-- ---- a turn of the loop over the identity branches
 
-module _ (w q m i : ℕ) (f : Float) (ws : List ℕ) (cs : List Float) where
-  pub branch_z : {c d : Float} {r : ℕ} {ws' : List ℕ} {cs' : List Float} → is_zletter w q (key_at (2 * w) ws i) ≡ true → c ≡ coeff_at cs i → d ≡ scaled_of f c
-      → Holds (2 * w) r r (insert (terms_in (2 * w) m ws cs) (term (flip_at (key_at (2 * w) ws i) (z_at w q)) d)) ws ws' cs cs'
-      → Holds (2 * w) r r (branch w q f (terms_in (2 * w) m ws cs) (term_at (2 * w) ws cs i)) ws ws' cs cs'
-  branch_z z ec ed H = rw (z, ← (ed ∙ ap (scaled_of f) ec)) H
-
-  pub branch_none : is_zletter w q (key_at (2 * w) ws i) ≡ false
-      → Holds (2 * w) m m (branch w q f (terms_in (2 * w) m ws cs) (term_at (2 * w) ws cs i)) ws ws cs cs
-  branch_none z = rw z (hold_start (2 * w) m m ws cs)
-
--- a turn of the loop
 pub branches_held : (w q : ℕ) (f : Float) (n i : ℕ) (l : List Term) {m r : ℕ} {ws₀ ws ws' : List ℕ} {cs₀ cs cs' : List Float}
     → length l ≡ n → i < n → i < m → Holds (2 * w) m m (branches_to w q f i l) ws₀ ws cs₀ cs → m ≤ r
     → Holds (2 * w) r r (branch w q f (terms_in (2 * w) m ws cs) (term_at (2 * w) ws cs i)) ws ws' cs cs'
@@ -160,23 +149,6 @@ letter_there w q k e = ap is_some e ∙ go (has_letter w k q)
     go true = refl
     go false = refl
 
-module _ (w a b : ℕ) (f : Float) (i : ℕ) (ws : List ℕ) (cs : List Float) where
-  abbrev row : Term
-  row = term_at (2 * w) ws cs i
-
-  module _ {p q m : Bool} (ep : p ≡ has_letter w row.key a) (eq : q ≡ has_letter w row.key b) (em : m ≡ (p || q)) where
-    met : m ≡ (has_letter w row.key a || has_letter w row.key b)
-    met = em ∙ ap₂ ◌||◌ ep eq
-
-    pub either_met : {v u : Float} {cs' : List Float} → m ≡ true → v ≡ coeff_at cs i → u ≡ scaled_of f v → cs' ≡ put_coeff cs i u
-        → cs' ≡ put_coeff cs i (scaled_either w a b f row).coeff
-    either_met e ev eu ec =
-        ec ∙ ap (put_coeff cs i) (eu ∙ ap (scaled_of f) ev ∙ ap (λ (x : Bool). (cond x (term row.key (scaled_of f row.coeff)) row).coeff) (sym (sym met ∙ e)))
-
-    pub either_unmet : m ≡ false → cs ≡ put_coeff cs i (scaled_either w a b f row).coeff
-    either_unmet e =
-        sym (put_val_same cs i) ∙ ap (λ (x : Bool). put_coeff cs i (cond x (term row.key (scaled_of f row.coeff)) row).coeff) (sym (sym met ∙ e))
-
 pub either_key : (w a b : ℕ) (f : Float) (t : Term) → (scaled_either w a b f t).key ≡ t.key
 either_key w a b f t = go (has_letter w t.key a || has_letter w t.key b)
   where
@@ -184,25 +156,53 @@ either_key w a b f t = go (has_letter w t.key a || has_letter w t.key b)
     go true = refl
     go false = refl
 
+module _ (w a b : ℕ) (f : Float) (i : ℕ) (ws : List ℕ) (cs : List Float) where
+  abbrev row : Term
+  row = term_at (2 * w) ws cs i
+
+  stored : {cs' : List Float} → cs' ≡ put_coeff cs i (scaled_either w a b f row).coeff → Stored (2 * w) i (scaled_either w a b f row) ws ws cs cs'
+  stored e = (sym (ap (put_key (2 * w) ws i) (either_key w a b f row) ∙ put_key_same (2 * w) ws i), e)
+
+  module _ {p q m : Bool} (ep : p ≡ has_letter w row.key a) (eq : q ≡ has_letter w row.key b) (em : m ≡ (p || q)) where
+    met : m ≡ (has_letter w row.key a || has_letter w row.key b)
+    met = em ∙ ap₂ ◌||◌ ep eq
+
+    pub either_met : {v u : Float} {cs' : List Float} → m ≡ true → v ≡ coeff_at cs i → u ≡ scaled_of f v → cs' ≡ put_coeff cs i u
+        → Stored (2 * w) i (scaled_either w a b f row) ws ws cs cs'
+    either_met e ev eu ec =
+        stored (ec ∙ ap (put_coeff cs i) (eu ∙ ap (scaled_of f) ev ∙ ap (λ (x : Bool). (cond x (term row.key (scaled_of f row.coeff)) row).coeff) (sym (sym met ∙ e))))
+
+    pub either_unmet : m ≡ false → Stored (2 * w) i (scaled_either w a b f row) ws ws cs cs
+    either_unmet e =
+        stored (sym (put_val_same cs i) ∙ ap (λ (x : Bool). put_coeff cs i (cond x (term row.key (scaled_of f row.coeff)) row).coeff) (sym (sym met ∙ e)))
+
+  -- a turn of the loop over the rows
+  pub either_turn : {n : ℕ} (l : List Term) {ws₀ ws' : List ℕ} {cs₀ cs' : List Float} → Holds (2 * w) n n (map_to (scaled_either w a b f) i l) ws₀ ws cs₀ cs
+      → Room (2 * w) n ws₀ cs₀ → i < n → Stored (2 * w) i (scaled_either w a b f row) ws ws' cs cs'
+      → Holds (2 * w) n n (map_to (scaled_either w a b f) (i + 1) l) ws₀ ws' cs₀ cs'
+  either_turn {n} l {ws₀} {ws'} {cs₀} {cs'} H room h S =
+      rw (S.0 ∙ ap (put_key (2 * w) ws i) (either_key w a b f row) ∙ put_key_same (2 * w) ws i)
+      (hold_map (scaled_either w a b f) (either_key w a b f) i l H room (le_refl n) h S.1)
+
 -- ---- the branches and then the multipliers
 
 module _ (w q : ℕ) (lambda : List Float) (f : Float) (n : ℕ) (ws : List ℕ) (cs : List Float) where
-  pub local_scaled : {cs' : List Float} → is_zero f ≡ true → Holds (2 * w) n n (map (scaled_letter w q lambda) (terms_in (2 * w) n ws cs)) ws ws cs cs'
-      → Holds (2 * w) n n (scaled_local w q lambda (with_branches w q f (terms_in (2 * w) n ws cs))) ws ws cs cs'
+  pub local_scaled : {ws' : List ℕ} {cs' : List Float} → is_zero f ≡ true → Holds (2 * w) n n (map (scaled_letter w q lambda) (terms_in (2 * w) n ws cs)) ws ws' cs cs'
+      → Holds (2 * w) n n (scaled_local w q lambda (with_branches w q f (terms_in (2 * w) n ws cs))) ws ws' cs cs'
   unfolding scaled_local
   local_scaled e H = rw e H
 
-  pub local_branched : {m : ℕ} {ws₁ : List ℕ} {cs₁ cs₂ : List Float} → is_zero f ≡ false
+  pub local_branched : {m : ℕ} {ws₁ ws₂ : List ℕ} {cs₁ cs₂ : List Float} → is_zero f ≡ false
       → Holds (2 * w) m m (branches_to w q f n (terms_in (2 * w) n ws cs)) ws ws₁ cs cs₁
-      → Holds (2 * w) m m (map (scaled_letter w q lambda) (terms_in (2 * w) m ws₁ cs₁)) ws₁ ws₁ cs₁ cs₂
-      → Holds (2 * w) m m (scaled_local w q lambda (with_branches w q f (terms_in (2 * w) n ws cs))) ws ws₁ cs cs₂
+      → Holds (2 * w) m m (map (scaled_letter w q lambda) (terms_in (2 * w) m ws₁ cs₁)) ws₁ ws₂ cs₁ cs₂
+      → Holds (2 * w) m m (scaled_local w q lambda (with_branches w q f (terms_in (2 * w) n ws cs))) ws ws₂ cs cs₂
   unfolding scaled_local
-  local_branched {m} {ws₁} {cs₁} {cs₂} e H K =
+  local_branched {m} {ws₁} {ws₂} {cs₁} {cs₂} e H K =
       let all : take n (terms_in (2 * w) n ws cs) ≡ terms_in (2 * w) n ws cs =
       ap (λ (k : ℕ). take k (terms_in (2 * w) n ws cs)) (sym (length_tab n (term_at (2 * w) ws cs))) ∙ take-length (terms_in (2 * w) n ws cs) in
       let done : branches_to w q f n (terms_in (2 * w) n ws cs) ≡ foldl (branch w q f) (terms_in (2 * w) n ws cs) (terms_in (2 * w) n ws cs) =
       ap (foldl (branch w q f) (terms_in (2 * w) n ws cs)) all in
-      rw (e, ← done) (hold_trans H (subst (λ (us : List Term). Holds (2 * w) m m (map (scaled_letter w q lambda) us) ws₁ ws₁ cs₁ cs₂) H.terms K))
+      rw (e, ← done) (hold_trans H (subst (λ (us : List Term). Holds (2 * w) m m (map (scaled_letter w q lambda) us) ws₁ ws₂ cs₁ cs₂) H.terms K))
 
 -- the channel, by its kind
 module _ (w a b n : ℕ) (c : ChannelAction) (ws : List ℕ) (cs : List Float) where
@@ -212,8 +212,8 @@ module _ (w a b n : ℕ) (c : ChannelAction) (ws : List ℕ) (cs : List Float) w
   unfolding channeled
   channel_local e kind h H = grown w n _ e h (rw kind H)
 
-  pub channel_pair : {cs' : List Float} → leb (2 * n) (rows_in w ws cs) ≡ true → c.kind ≡ Depolarizing2q
-      → Holds (2 * w) n n (map (scaled_either w a b (get_or c.lambda 0 nan)) (terms_in (2 * w) n ws cs)) ws ws cs cs'
-      → Grown w n (channeled w a b c (terms_in (2 * w) n ws cs)) n ws ws cs cs'
+  pub channel_pair : {ws' : List ℕ} {cs' : List Float} → leb (2 * n) (rows_in w ws cs) ≡ true → c.kind ≡ Depolarizing2q
+      → Holds (2 * w) n n (map (scaled_either w a b (get_or c.lambda 0 nan)) (terms_in (2 * w) n ws cs)) ws ws' cs cs'
+      → Grown w n (channeled w a b c (terms_in (2 * w) n ws cs)) n ws ws' cs cs'
   unfolding channeled
   channel_pair e kind H = grown w n _ e (omega arith) (rw kind H)

@@ -5,6 +5,7 @@ mod WalkLaws
 mod FileLaws
 mod PairLaws
 mod TableLaws
+mod IndexLaws
 mod PartnerLaws
 mod RotationRows
 pub mod RotatedLaws

@@ -69,8 +69,8 @@ module _ (w n : ℕ) (x : Axis) (sin cos : Float) (ws : List ℕ) (cs : List Flo
       }
 
   -- the sine is 0
-  pub rotated_scaled : {cs' : List Float} → Words ws → leb (2 * n) (rows_in w ws cs) ≡ true → is_zero sin ≡ true
-      → Holds (2 * w) n n (map (scaled_met w (met_by x) (partner_by w x) sin cos) ts) ws ws cs cs' → Rotated w n x sin cos n ws ws cs cs'
+  pub rotated_scaled : {ws' : List ℕ} {cs' : List Float} → Words ws → leb (2 * n) (rows_in w ws cs) ≡ true → is_zero sin ≡ true
+      → Holds (2 * w) n n (map (scaled_met w (met_by x) (partner_by w x) sin cos) ts) ws ws' cs cs' → Rotated w n x sin cos n ws ws' cs cs'
   unfolding branched
   rotated_scaled ok e z H = both ok e (grown w n _ e (omega arith) (rw z H))
 

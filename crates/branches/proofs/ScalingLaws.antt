@@ -41,8 +41,9 @@ module _ (f : Key → Option Float) (s i : ℕ) (ws : List ℕ) (cs : List Float
 -- ---- the factors of the steps
 
 module _ (s n : ℕ) (ws : List ℕ) (cs : List Float) where
-  pub held_by : {F G : Term → Term} {cs' : List Float} → F ≡ G → Holds s n n (map F (terms_in s n ws cs)) ws ws cs cs' → Holds s n n (map G (terms_in s n ws cs)) ws ws cs cs'
-  held_by {F} {G} {cs'} = subst (λ (F : Term → Term). Holds s n n (map F (terms_in s n ws cs)) ws ws cs cs')
+  pub held_by : {F G : Term → Term} {ws' : List ℕ} {cs' : List Float} → F ≡ G → Holds s n n (map F (terms_in s n ws cs)) ws ws' cs cs'
+      → Holds s n n (map G (terms_in s n ws cs)) ws ws' cs cs'
+  held_by {F} {G} {ws'} {cs'} = subst (λ (F : Term → Term). Holds s n n (map F (terms_in s n ws cs)) ws ws' cs cs')
 
 chosen : (b : Bool) (x : Float) (t : Term) → times (then_some b x) t ≡ cond b (term t.key (scaled_of x t.coeff)) t
 chosen true x t = refl

@@ -20,7 +20,7 @@ use Rattle.terms.specs.Term.{Term, term, no_term, is_in, add_to}
 use Rattle.terms.proofs.FirstLaws.{first_at, first_nothing, first_ext}
 use Rattle.terms.proofs.ListLaws.{fold_tab}
 use Rattle.words.specs.Rows.{key_at}
-use Rattle.rows.specs.Rows.{coeff_at, term_at, terms_in, rows_in, put_key, put_coeff, copied_row, Holds, Room, Stepped}
+use Rattle.rows.specs.Rows.{coeff_at, term_at, terms_in, rows_in, put_key, copied_row, Holds, Room, Stepped}
 use Rattle.branches.specs.Started.{shared_words, shared_coeffs, shared_count, SharedRow}
 use Rattle.rows.specs.Cleared.{Cleared}
 use Rattle.rows.proofs.RowLaws.{length_key, key_put_other, val_put_other}
@@ -175,28 +175,8 @@ module _ {s n : ℕ} {ws₀ ws : List ℕ} {cs₀ cs : List Float} {m i : ℕ} (
 pub new_key : (s i m : ℕ) (ws : List ℕ) {ws' : List ℕ} → m ≤ i → i * s + s ≤ length ws → ws' ≡ copied_row s ws i m → ws' ≡ put_key s ws m (key_at s ws i)
 new_key s i m ws h r e = e ∙ copied_in s ws i m r (let k : m * s ≤ i * s = mul-le-mul_right s h in omega arith)
 
-pub new_coeffs : (cs : List Float) (i m : ℕ) {cs' : List Float} {v u : Float} → v ≡ coeff_at cs i → u ≡ plus_of zero64 v → cs' ≡ put_coeff cs m u
-    → cs' ≡ put_coeff cs m (plus_of zero64 (coeff_at cs i))
-new_coeffs cs i m ev eu e = e ∙ ap (put_coeff cs m) (eu ∙ ap (plus_of zero64) ev)
-
-module _ (s i m : ℕ) (ws : List ℕ) (cs : List Float) where
-  abbrev found : Option ℕ
-  found = first (λ j. same_key (key_at s ws j) (key_at s ws i)) m
-
-  pub found_below : (j : ℕ) {f : Option ℕ} → f ≡ found → f ≡ Some j → j < m
-  found_below j e q = (first_at (λ j. same_key (key_at s ws j) (key_at s ws i)) m j (sym e ∙ q)).0
-
-  pub shared_at : (j : ℕ) {f : Option ℕ} {cs' : List Float} → f ≡ found → f ≡ Some j → cs' ≡ put_coeff cs j (plus_of (coeff_at cs j) (coeff_at cs i))
-      → SharedRow s i m found m ws ws cs cs'
-  shared_at j e q ec =
-      let at : Some j ≡ found = sym q ∙ e in
-      record { words = ap (shared_words s i m ws) at; coeffs = ec ∙ ap (shared_coeffs i m cs) at; count = ap (shared_count m) at }
-
-  pub shared_new : {f : Option ℕ} {ws' : List ℕ} {cs' : List Float} → f ≡ found → f ≡ None
-      → (ws' ≡ put_key s ws m (key_at s ws i)) × (cs' ≡ put_coeff cs m (plus_of zero64 (coeff_at cs i))) → SharedRow s i m found (m + 1) ws ws' cs cs'
-  shared_new e q r =
-      let at : None ≡ found = sym q ∙ e in
-      record { words = r.0 ∙ ap (shared_words s i m ws) at; coeffs = r.1 ∙ ap (shared_coeffs i m cs) at; count = ap (shared_count m) at }
+pub found_below : (s i m : ℕ) (ws : List ℕ) (j : ℕ) {f : Option ℕ} → f ≡ first (λ j. same_key (key_at s ws j) (key_at s ws i)) m → f ≡ Some j → j < m
+found_below s i m ws j e q = (first_at (λ j. same_key (key_at s ws j) (key_at s ws i)) m j (sym e ∙ q)).0
 
 -- the index of the first m rows, with another row m
 pub index_shared : (w i m : ℕ) (buckets : Option ℕ) (ix ws : List ℕ) {vs : List ℕ} → m ≤ i → i * (2 * w) + 2 * w ≤ length ws → vs ≡ put_key (2 * w) ws m (key_at (2 * w) ws i)

@@ -1,22 +1,20 @@
 -- The term of a line in a row, a turn of the loop over the lines, and what the public starts leave. Assumes nothing.
 use mathlib.Core.Path.{◌≡◌, refl, sym, ap, ap₂, ◌∙◌, subst}
-use mathlib.Core.Bool.{Bool, true, false, cond, ◌&&◌}
-use mathlib.Core.List.{List, [], ◌∷◌, ◌++◌, append_assoc}
+use mathlib.Core.Bool.{Bool, true, cond, ◌&&◌}
+use mathlib.Core.List.{List, [], ◌∷◌, ◌++◌}
 use Prim.Native.Nat.{ℕ, ◌+◌, ◌-◌, ◌*◌, ◌/◌, ◌%◌, ◌≤◌, ◌<◌}
 use native.Mathlib.Numerals.{add-one}
 use native.Mathlib.Omega.{arith}
 use lib.Dec.{leb, ltb}
-use lib.ListN.{length, get_or, set, take, drop, replicate, length-drop}
-use lib.Seq.{paste, paste-suc, get_or-drop}
+use lib.ListN.{length, get_or, replicate}
 use lib.Ieee.{Float, nan, neg}
-use borrow.Author.Tests.{lt-ltb, le-ltb, le-leb, lt-leb}
+use borrow.Author.Tests.{lt-ltb, le-leb}
 use Rattle.numbers.specs.Constants.{zero64}
 use Rattle.words.proofs.RowSteps.{row_fits}
 use Rattle.terms.specs.Lists.{tab}
 use Rattle.words.specs.Letters.{ys_of}
 use Rattle.terms.specs.Start.{term_of, coalesced, merged}
 use Rattle.terms.specs.Term.{Term}
-use Rattle.terms.proofs.CaseLaws.{and-false}
 use Rattle.terms.proofs.ListLaws.{tab_snoc, length_tab}
 use Rattle.words.specs.Rows.{key_at}
 use Rattle.rows.specs.Rows.{terms_in, rows_in, keys_of, coeffs_of, words_with, coeffs_with, put_key, put_coeff, Stepped, Holds}
@@ -24,19 +22,6 @@ use Rattle.branches.specs.Started.{Started, lines_of}
 use Rattle.rows.proofs.RowLaws.{length_key}
 use Rattle.rows.proofs.HoldLaws.{hold_start, hold_push, hold_room, hold_count}
 use Rattle.rows.proofs.StepLaws.{rows_room, held_rows, held_words, held_coeffs}
-
--- ---- a key copied word by word
-
-module _ (s : ℕ) (ws : List ℕ) (row : ℕ) (keys : List ℕ) (line : ℕ) where
-  pub line_suc : (k : ℕ) → k < s → row * s + s ≤ length ws → line * s + s ≤ length keys
-      → set (paste ws (row * s) (drop (line * s) keys) k) (row * s + k) (get_or keys (line * s + k) 0) ≡ paste ws (row * s) (drop (line * s) keys) (k + 1)
-  line_suc k h room there =
-      ap (set (paste ws (row * s) (drop (line * s) keys) k) (row * s + k)) (sym (get_or-drop (line * s) keys k 0))
-      ∙ paste-suc ws (row * s) (drop (line * s) keys) k 0 (omega arith) (simp length-drop (omega arith))
-      ∙ ap (paste ws (row * s) (drop (line * s) keys)) (sym (add-one k))
-
-  pub line_all : {k : ℕ} {ws' : List ℕ} → k ≡ s → ws' ≡ paste ws (row * s) (drop (line * s) keys) k → ws' ≡ put_key s ws row (key_at s keys line)
-  line_all e q = q ∙ ap (paste ws (row * s) (drop (line * s) keys)) e ∙ append_assoc (take (row * s) ws) (key_at s keys line) (drop (row * s + s) ws)
 
 -- ---- one row
 
@@ -88,13 +73,6 @@ module _ (room : Bool) (w R : ℕ) (ts : List Term) (ws : List ℕ) (cs : List F
     coeffs = q ∙ ap (λ (b : Bool). cond b (coeffs_with R ts cs) cs) (sym e);
   }
 
-  unstarted : room ≡ false → Started room w R ts 0 ws ws cs cs
-  unstarted e = record {
-    count = ap (λ (b : Bool). cond b (length ts) 0) (sym e);
-    words = ap (λ (b : Bool). cond b (words_with w R ts ws) ws) (sym e);
-    coeffs = ap (λ (b : Bool). cond b (coeffs_with R ts cs) cs) (sym e);
-  }
-
   started_held : {ws' : List ℕ} {cs' : List Float} → room ≡ true → R ≤ length cs → Holds (2 * w) R R ts ws ws' cs cs' → Started room w R ts R ws ws' cs cs'
   started_held {ws'} {cs'} e h H =
       subst (λ (r : ℕ). Started room w R ts r ws ws' cs cs') (hold_count H) (started e (held_words w H) (held_coeffs w H h))
@@ -105,14 +83,6 @@ module _ (w line : ℕ) (keys : List ℕ) (weight : Float) (ws : List ℕ) (cs :
 
   abbrev its : List Term
   its = term_of w (key_at (2 * w) keys line) weight ∷ []
-
-  pub single_no_row : {r : ℕ} → r ≡ rows_in w ws cs → r < 1 → Started one_line w 1 its 0 ws ws cs cs
-  single_no_row e h = unstarted one_line w 1 its ws cs (ap (λ (b : Bool). b && ltb line (length keys / (2 * w))) (lt-leb 1 (rows_in w ws cs) (rw (← e) h)))
-
-  pub single_no_line : {n : ℕ} → n ≡ length keys / (2 * w) → n ≤ line → Started one_line w 1 its 0 ws ws cs cs
-  single_no_line e h =
-      unstarted one_line w 1 its ws cs
-      (ap (λ (b : Bool). leb 1 (rows_in w ws cs) && b) (le-ltb line (length keys / (2 * w)) (rw (← e) h)) ∙ and-false (leb 1 (rows_in w ws cs)))
 
   pub single_done : {r n : ℕ} {ws' : List ℕ} {cs' : List Float} → r ≡ rows_in w ws cs → 1 ≤ r → n ≡ length keys / (2 * w) → line < n
       → (ws' ≡ put_key (2 * w) ws 0 (term_of w (key_at (2 * w) keys line) weight).key) × (cs' ≡ put_coeff cs 0 (term_of w (key_at (2 * w) keys line) weight).coeff)
@@ -140,7 +110,7 @@ merged_many (t ∷ u ∷ l) h = refl
 
 module _ (w lines : ℕ) (keys : List ℕ) (weights : List Float) (ws : List ℕ) (cs : List Float) where
   abbrev all_lines : Bool
-  all_lines = leb lines (rows_in w ws cs) && (leb lines (length keys / (2 * w)) && leb lines (length weights))
+  all_lines = leb lines (rows_in w ws cs) && leb lines (length keys / (2 * w))
 
   abbrev terms : List Term
   terms = lines_of w keys weights lines
@@ -148,27 +118,10 @@ module _ (w lines : ℕ) (keys : List ℕ) (weights : List Float) (ws : List ℕ
   lines_count : length terms ≡ lines
   lines_count = length_tab lines (λ l. term_of w (key_at (2 * w) keys l) (get_or weights l nan))
 
-  pub sum_no_room : {r : ℕ} → r ≡ rows_in w ws cs → r < lines → Started all_lines w lines (merged terms) 0 ws ws cs cs
-  sum_no_room e h =
-      unstarted all_lines w lines (merged terms) ws cs
-      (ap (λ (b : Bool). b && (leb lines (length keys / (2 * w)) && leb lines (length weights))) (lt-leb lines (rows_in w ws cs) (rw (← e) h)))
-
-  pub sum_no_keys : {n : ℕ} → n ≡ length keys / (2 * w) → n < lines → Started all_lines w lines (merged terms) 0 ws ws cs cs
-  sum_no_keys e h =
-      unstarted all_lines w lines (merged terms) ws cs
-      (ap (λ (b : Bool). leb lines (rows_in w ws cs) && (b && leb lines (length weights))) (lt-leb lines (length keys / (2 * w)) (rw (← e) h))
-      ∙ and-false (leb lines (rows_in w ws cs)))
-
-  pub sum_no_weights : length weights < lines → Started all_lines w lines (merged terms) 0 ws ws cs cs
-  sum_no_weights h =
-      unstarted all_lines w lines (merged terms) ws cs
-      (ap (λ (b : Bool). leb lines (rows_in w ws cs) && (leb lines (length keys / (2 * w)) && b)) (lt-leb lines (length weights) h)
-      ∙ ap (λ (b : Bool). leb lines (rows_in w ws cs) && b) (and-false (leb lines (length keys / (2 * w)))) ∙ and-false (leb lines (rows_in w ws cs)))
-
-  module _ {ws₁ : List ℕ} {cs₁ : List Float} (row : lines ≤ rows_in w ws cs) (there : lines ≤ length keys / (2 * w)) (have : lines ≤ length weights)
+  module _ {ws₁ : List ℕ} {cs₁ : List Float} (row : lines ≤ rows_in w ws cs) (there : lines ≤ length keys / (2 * w))
       (H : Holds (2 * w) lines lines terms ws ws₁ cs cs₁) where
     yes : all_lines ≡ true
-    yes = λ k. le-leb lines (rows_in w ws cs) row k && (le-leb lines (length keys / (2 * w)) there k && le-leb lines (length weights) have k)
+    yes = λ k. le-leb lines (rows_in w ws cs) row k && le-leb lines (length keys / (2 * w)) there k
 
     pub sum_few : lines < 2 → Started all_lines w lines (merged terms) lines ws ws₁ cs cs₁
     sum_few h =

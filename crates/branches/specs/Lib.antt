@@ -5,3 +5,4 @@ pub mod Chains
 pub mod Pairs
 pub mod Started
 pub mod Scaling
+pub mod Index

@@ -25,6 +25,14 @@ pub(crate) enum Sought {
     Identity(usize),
 }
 
+// Chains of rows in lent memory: a number for each bucket, then one for each row; a table of partners has one more for each row (`pairs`). Where the memory is
+// too short there is none, and rows are looked for by a scan.
+#[derive(Drop)]
+pub(crate) struct Index<'a> {
+    memory: &'a mut [u32],
+    buckets: usize,
+}
+
 // What a rotation does at a row.
 #[derive(Clone, Copy)]
 pub(crate) enum Mate {
@@ -32,6 +40,6 @@ pub(crate) enum Mate {
     Done,
     // The row is met and has no partner.
     Lone,
-    // The partner is a later row; and a number that is odd where the row's own Y letters are odd in number.
+    // The partner is a later row; and a number, as `key_odd` gives it, that is odd where the row's own Y letters are odd in number.
     Later(usize, usize),
 }

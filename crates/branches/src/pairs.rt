@@ -2,19 +2,23 @@
 // for each row, which says what is to be done at it: 0 for nothing, where it is not met or its partner is before it; 1 if it has no partner;
 // else twice one more than its partner, and the parity of its Y letters. So the words of pairs, and of rows that are not met, are read once.
 // A chain has the first row of each pair. The memory of the table is lent by C as numbers, which is why what is to be done at a row is a number
-// there; `mate` reads it.
-ghost use Rattle.std.specs.Prelude.{◌≡◌, true, ◌+◌, ◌*◌, ◌≤◌, ◌<◌, length, get_or};
+// there; `mate` reads it. n, how many rows the table has, is a parameter, as in every step over rows.
+ghost use Rattle.std.specs.Prelude.{◌≡◌, true, ◌+◌, ◌≤◌, ◌<◌, length, get_or};
 ghost use Rattle.terms.specs.Rotation.{met_by, on_key};
-ghost use Rattle.words.specs.Rows.{key_at};
-ghost use Rattle.branches.specs.Pairs.{mate_of, joined, begun, passed, Told, Pairing, Tabled, Roomy};
+ghost use Rattle.rows.specs.Lent.{row_key, HasKeys};
+ghost use Rattle.branches.specs.Pairs.{mate_of, code_at, joined, begun, passed, Told, Pairing, Roomy};
+ghost use Rattle.branches.specs.Index.{Tables, SameIndex, InMemory};
 
-use crate::{Mate, Sought, chains, probe};
+use crate::{Index, Mate, Sought, probe};
+use rows::Rows;
 use terms::Axis;
 
-// What a number of the table says.
-fn mate(code: usize) -> Mate
-    ensures { result ≡ mate_of code }
+// What the number of row i says.
+fn mate(index: &Index<'_>, n: usize, i: usize) -> Mate
+    requires { index.now.buckets + n + i < length index.now.memory.now }
+    ensures { result ≡ mate_of (code_at index.now.buckets n index.now.memory.now i) }
 {
+    let code = index.memory[index.buckets + n + i] as usize;
     match code {
         0 => Mate::Done,
         1 => Mate::Lone,
@@ -26,95 +30,82 @@ fn mate(code: usize) -> Mate
 }
 
 // Rows j and i become partners, if j has none yet. The pair is done at row j, the earlier. `odd` is the parity of row i, and row j has the other.
-fn join(index: &mut [u32], from: usize, i: usize, j: usize, odd: usize) -> bool
-    requires { (from + i < length index.old) × ((from + j < length index.old) × ((i < 2147483646) × (odd < 2))) }
-    ensures { result ≡ true → (get_or index.old (from + j) 0 ≡ 1) × (index.new ≡ joined from i j odd index.old) }
+fn join(index: &mut Index<'_>, n: usize, i: usize, j: usize, odd: usize) -> bool
+    requires { (index.old.buckets + n + i < length index.old.memory.now) × ((index.old.buckets + n + j < length index.old.memory.now)
+        × ((i < 2147483646) × (odd < 2))) }
+    ensures same { SameIndex index.old index.new }
+    ensures joined { result ≡ true → (get_or index.old.memory.now (index.old.buckets + n + j) 0 ≡ 1)
+        × (index.new.memory.now ≡ joined (index.old.buckets + n) i j odd index.old.memory.now) }
 {
-    if index[from + j] != 1 {
+    let from = index.buckets + n;
+    if index.memory[from + j] != 1 {
         return false;
     }
-    index[from + i] = 0;
-    index[from + j] = (2 * (i + 1) + (1 - odd)) as u32;
+    index.memory[from + i] = 0;
+    index.memory[from + j] = (2 * (i + 1) + (1 - odd)) as u32;
     true
 }
 
 // Row i becomes the first of its pair, in the chain of a bucket.
-fn begin(index: &mut [u32], buckets: usize, n: usize, i: usize, b: usize)
-    requires { (i < n) × ((n < 2147483646) × ((b < buckets) × (buckets + n + n ≤ length index.old))) }
-    ensures { index.new ≡ begun n i buckets b index.old }
+fn begin(index: &mut Index<'_>, n: usize, i: usize, b: usize)
+    requires { (i < n) × ((n < 2147483646) × ((b < index.old.buckets) × (index.old.buckets + n + n ≤ length index.old.memory.now))) }
+    ensures same { SameIndex index.old index.new }
+    ensures begun { index.new.memory.now ≡ begun n i index.old.buckets b index.old.memory.now }
 {
-    chains::link(i, index, buckets, b);
-    index[buckets + n + i] = 1;
+    index.link(i, b);
+    index.memory[index.buckets + n + i] = 1;
 }
 
 // Nothing is to be done at row i.
-fn pass(index: &mut [u32], buckets: usize, n: usize, i: usize)
-    requires { (i < n) × (buckets + n + n ≤ length index.old) }
-    ensures { index.new ≡ passed n i buckets index.old }
+fn pass(index: &mut Index<'_>, n: usize, i: usize)
+    requires { (i < n) × (index.old.buckets + n + n ≤ length index.old.memory.now) }
+    ensures same { SameIndex index.old index.new }
+    ensures passed { index.new.memory.now ≡ passed n i index.old.buckets index.old.memory.now }
 {
-    index[buckets + n + i] = 0;
+    index.memory[index.buckets + n + i] = 0;
 }
 
 // A row that is met: it joins the row of its chain that is its partner, or begins a pair. The answer is false if a row before it has its key.
-fn pair_met(
-    words: &[u64],
-    w: usize,
-    n: usize,
-    i: usize,
-    axis: Axis,
-    index: &mut [u32],
-    buckets: usize,
-) -> bool
-    requires { (i < n) × ((n * (2 * w) ≤ length words.now) × ((n < 2147483646) × ((on_key w axis ≡ true)
-        × ((met_by axis (key_at (2 * w) words.now i) ≡ true) × Pairing axis w words.now n i buckets index.old)))) }
-    ensures { result ≡ true → Pairing axis w words.now n (i + 1) buckets index.new }
+fn pair_met(rows: &Rows<'_>, index: &mut Index<'_>, n: usize, i: usize, axis: Axis) -> bool
+    requires { (i < n) × (HasKeys rows.now n × ((n < 2147483646) × ((on_key rows.now.w axis ≡ true)
+        × ((met_by axis (row_key rows.now i) ≡ true) × Pairing axis rows.now.w rows.now.words.now n i index.old.buckets index.old.memory.now)))) }
+    ensures same { SameIndex index.old index.new }
+    ensures paired { result ≡ true → Pairing axis rows.now.w rows.now.words.now n (i + 1) index.old.buckets index.new.memory.now }
 {
-    let b = chains::bucket_of(words, w, i, Sought::Partner(axis), buckets);
-    if let Some(j) = chains::walk(words, w, i, index, buckets, Sought::Partner(axis), i, b) {
-        let odd = probe::key_odd(probe::key(words, w, i), w);
-        return join(index, buckets + n, i, j, odd);
+    let b = index.bucket_of(rows, i, Sought::Partner(axis));
+    if let Some(j) = index.walk(rows, i, Sought::Partner(axis), i, b) {
+        let odd = probe::key_odd(probe::key(rows, i), rows.w);
+        return join(index, n, i, j, odd);
     }
-    if chains::walk(words, w, i, index, buckets, Sought::Same, i, b).is_some() {
+    if index.walk(rows, i, Sought::Same, i, b).is_some() {
         return false;
     }
-    begin(index, buckets, n, i, b);
+    begin(index, n, i, b);
     true
 }
 
-fn pair_row(
-    words: &[u64],
-    w: usize,
-    n: usize,
-    i: usize,
-    axis: Axis,
-    index: &mut [u32],
-    buckets: usize,
-) -> bool
-    requires { (i < n) × ((n * (2 * w) ≤ length words.now) × ((n < 2147483646) × ((on_key w axis ≡ true)
-        × Pairing axis w words.now n i buckets index.old))) }
-    ensures { result ≡ true → Pairing axis w words.now n (i + 1) buckets index.new }
+fn pair_row(rows: &Rows<'_>, index: &mut Index<'_>, n: usize, i: usize, axis: Axis) -> bool
+    requires { (i < n) × (HasKeys rows.now n × ((n < 2147483646) × ((on_key rows.now.w axis ≡ true)
+        × Pairing axis rows.now.w rows.now.words.now n i index.old.buckets index.old.memory.now))) }
+    ensures same { SameIndex index.old index.new }
+    ensures paired { result ≡ true → Pairing axis rows.now.w rows.now.words.now n (i + 1) index.old.buckets index.new.memory.now }
 {
-    if probe::key_met(probe::key(words, w, i), axis) {
-        return pair_met(words, w, n, i, axis, index, buckets);
+    if probe::key_met(probe::key(rows, i), axis) {
+        return pair_met(rows, index, n, i, axis);
     }
-    pass(index, buckets, n, i);
+    pass(index, n, i);
     true
 }
 
 // The answer is false if two of the rows that are met have one key.
-fn pair_rows(
-    words: &[u64],
-    w: usize,
-    n: usize,
-    axis: Axis,
-    index: &mut [u32],
-    buckets: usize,
-) -> bool
-    requires { (n * (2 * w) ≤ length words.now) × ((n < 2147483646) × ((on_key w axis ≡ true) × Pairing axis w words.now n 0 buckets index.old)) }
-    ensures { result ≡ true → Pairing axis w words.now n n buckets index.new }
+fn pair_rows(rows: &Rows<'_>, index: &mut Index<'_>, n: usize, axis: Axis) -> bool
+    requires { HasKeys rows.now n × ((n < 2147483646) × ((on_key rows.now.w axis ≡ true)
+        × Pairing axis rows.now.w rows.now.words.now n 0 index.old.buckets index.old.memory.now)) }
+    ensures same { SameIndex index.old index.new }
+    ensures paired { result ≡ true → Pairing axis rows.now.w rows.now.words.now n n index.old.buckets index.new.memory.now }
 {
     for i in 0..n {
-        if !pair_row(words, w, n, i, axis, index, buckets) {
+        if !pair_row(rows, index, n, i, axis) {
             return false;
         }
     }
@@ -131,57 +122,60 @@ fn buckets_for(long: usize, n: usize) -> Option<usize>
     Some(n + 1)
 }
 
-// Makes the table of the first n rows. The answer is the number of its buckets, or none if there is no table: the memory is too short, the words
-// do not have the targets, or two of the rows that are met have one key.
-pub(crate) fn table(
-    words: &[u64],
-    w: usize,
+// Makes the table of the first n rows; none if the memory is too short, the words do not have the targets, or two of the rows that are met have one
+// key.
+pub(crate) fn table<'a>(
+    rows: &Rows<'_>,
+    memory: &'a mut [u32],
     n: usize,
     axis: Axis,
-    index: &mut [u32],
-) -> Option<usize>
-    requires { n * (2 * w) ≤ length words.now }
-    ensures { Tabled axis w words.now n 0 result index.new }
+) -> Option<Index<'a>>
+    requires { HasKeys rows.now n }
+    ensures memory { InMemory memory.entry result }
+    ensures tabled { Tables axis rows.now n 0 result }
 {
-    let buckets = buckets_for(index.len(), n)?;
-    if !probe::on_key(w, axis) {
+    let buckets = buckets_for(memory.len(), n)?;
+    if !probe::on_key(rows.w, axis) {
         return None;
     }
-    index[..buckets].fill(0);
-    pair_rows(words, w, n, axis, index, buckets).then_some(buckets)
+    memory[..buckets].fill(0);
+    let mut index = Index { memory, buckets };
+    if pair_rows(rows, &mut index, n, axis) {
+        Some(index)
+    } else {
+        None
+    }
 }
 
 // What is to be done at row i where there is no table: by a scan.
-fn scan_mate(words: &[u64], w: usize, n: usize, axis: Axis, i: usize) -> Mate
-    requires { (n * (2 * w) ≤ length words.now) × (i < n) }
-    ensures { Told axis w words.now n i result }
+fn scan_mate(rows: &Rows<'_>, n: usize, axis: Axis, i: usize) -> Mate
+    requires { HasKeys rows.now n × (i < n) }
+    ensures { Told axis rows.now.w rows.now.words.now n i result }
 {
-    let key = probe::key(words, w, i);
+    let key = probe::key(rows, i);
     if !probe::key_met(key, axis) {
         return Mate::Done;
     }
-    match probe::scan(words, w, n, Sought::Partner(axis), i) {
+    match probe::scan(rows, n, Sought::Partner(axis), i) {
         None => Mate::Lone,
         Some(j) if j <= i => Mate::Done,
-        Some(j) => Mate::Later(j, probe::key_odd(key, w)),
+        Some(j) => Mate::Later(j, probe::key_odd(key, rows.w)),
     }
 }
 
 // What is to be done at row i, by the table, or by a scan if there is none. A row's partner is the first below n that is one.
 pub(crate) fn find(
-    words: &[u64],
-    w: usize,
+    rows: &Rows<'_>,
+    table: &Option<Index<'_>>,
     n: usize,
-    index: &[u32],
-    buckets: Option<usize>,
     axis: Axis,
     i: usize,
 ) -> Mate
-    requires { (n * (2 * w) ≤ length words.now) × ((i < n) × Tabled axis w words.now n i buckets index.now) }
-    ensures { Told axis w words.now n i result }
+    requires { HasKeys rows.now n × ((i < n) × Tables axis rows.now n i table.now) }
+    ensures { Told axis rows.now.w rows.now.words.now n i result }
 {
-    match buckets {
-        None => scan_mate(words, w, n, axis, i),
-        Some(buckets) => mate(index[buckets + n + i] as usize),
+    match table {
+        None => scan_mate(rows, n, axis, i),
+        Some(index) => mate(index, n, i),
     }
 }

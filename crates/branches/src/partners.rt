@@ -1,10 +1,11 @@
 // A rotation's partner of a row: the same word with z flipped at every target.
-ghost use Rattle.std.specs.Prelude.{◌≡◌, ◌+◌, ◌*◌, ◌≤◌, ◌<◌, length};
+ghost use Rattle.std.specs.Prelude.{◌≡◌, ◌*◌, ◌<◌};
 ghost use Rattle.terms.specs.Rotation.{partner_by};
-ghost use Rattle.words.specs.Rows.{key_at};
-ghost use Rattle.rows.specs.Rows.{put_key, put_coeff};
+ghost use Rattle.terms.specs.Term.{term};
+ghost use Rattle.rows.specs.Rows.{put_key, Stored};
+ghost use Rattle.rows.specs.Lent.{row_key, HasKey, HasRow, SameRows, OnRows};
 
-use rows::row;
+use rows::{Rows, row};
 use terms::Axis;
 use words::keys::flip_bit;
 
@@ -22,29 +23,23 @@ fn flip_key(key: &mut [u64], w: usize, axis: Axis)
 }
 
 // Turns the key of row i into its partner's.
-pub(crate) fn flip_row(words: &mut [u64], w: usize, i: usize, axis: Axis)
-    requires { i * (2 * w) + 2 * w ≤ length words.old }
-    ensures { words.new ≡ put_key (2 * w) words.old i (partner_by w axis (key_at (2 * w) words.old i)) }
+pub(crate) fn flip_row(rows: &mut Rows<'_>, i: usize, axis: Axis)
+    requires { HasKey rows.old i }
+    ensures same { SameRows rows.old rows.new }
+    ensures key { rows.new.words.now ≡ put_key (2 * rows.old.w) rows.old.words.now i (partner_by rows.old.w axis (row_key rows.old i)) }
+    ensures coeffs { rows.new.coeffs.now ≡ rows.old.coeffs.now }
 {
+    let w = rows.w;
     let base = i * (2 * w);
-    flip_key(&mut words[base..base + 2 * w], w, axis);
+    flip_key(&mut rows.words[base..base + 2 * w], w, axis);
 }
 
 // Row m becomes the partner of row i, with a coefficient.
-pub(crate) fn append_partner(
-    words: &mut [u64],
-    coeffs: &mut [f64],
-    w: usize,
-    m: usize,
-    i: usize,
-    axis: Axis,
-    c: f64,
-)
-    requires { (i < m) × (m * (2 * w) + 2 * w ≤ length words.old) × (m < length coeffs.old) }
-    ensures { (words.new ≡ put_key (2 * w) words.old m (partner_by w axis (key_at (2 * w) words.old i)))
-        × (coeffs.new ≡ put_coeff coeffs.old m c) }
+pub(crate) fn append_partner(rows: &mut Rows<'_>, m: usize, i: usize, axis: Axis, c: f64)
+    requires { (i < m) × HasRow rows.old m }
+    ensures { OnRows (Stored (2 * rows.old.w) m (term (partner_by rows.old.w axis (row_key rows.old i)) c)) rows.old rows.new }
 {
-    row::copy_row(words, 2 * w, i, m);
-    flip_row(words, w, m, axis);
-    coeffs[m] = c;
+    row::copy_row(rows.words, 2 * rows.w, i, m);
+    flip_row(rows, m, axis);
+    rows.coeffs[m] = c;
 }

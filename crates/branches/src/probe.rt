@@ -1,26 +1,27 @@
 // What is looked for from a row: read word by word from the row's own key, and compared with the keys of the rows.
-ghost use Rattle.std.specs.Prelude.{◌≡◌, ◌+◌, ◌*◌, ◌≤◌, ◌<◌, length};
+ghost use Rattle.std.specs.Prelude.{◌≡◌, ◌<◌};
 ghost use Rattle.words.specs.Keys.{same_key};
 ghost use Rattle.terms.specs.Rotation.{met_by, on_key};
 ghost use Rattle.terms.specs.Branch.{first};
 ghost use Rattle.words.specs.Letters.{is_odd};
 ghost use Rattle.terms.specs.Term.{odd_y};
-ghost use Rattle.words.specs.Rows.{key_at};
+ghost use Rattle.rows.specs.Lent.{row_key, HasKey, HasKeys};
 ghost use Rattle.branches.specs.Probe.{sought_by, files, flipped_word, partner_word, sought_word};
 
 use crate::Sought;
+use rows::Rows;
 use terms::Axis;
 use words::keys::get_bit;
 use words::letters::y_parity;
 
 // The key of row i, a part of the buffer.
 #[tactic(auto, using(crate::proofs::ProbeLaws::part_key))]
-pub(crate) fn key(words: &[u64], w: usize, i: usize) -> &[u64]
-    requires { i * (2 * w) + 2 * w ≤ length words.now }
-    ensures { result.now ≡ key_at (2 * w) words.now i }
+pub(crate) fn key<'a>(rows: &'a Rows<'_>, i: usize) -> &'a [u64]
+    requires { HasKey rows.now i }
+    ensures { result.now ≡ row_key rows.now i }
 {
-    let base = i * (2 * w);
-    &words[base..base + 2 * w]
+    let base = i * (2 * rows.w);
+    &rows.words[base..base + 2 * rows.w]
 }
 
 // Whether a rotation meets a key.
@@ -35,7 +36,7 @@ pub(crate) fn key_met(key: &[u64], axis: Axis) -> bool
 }
 
 // 1 where the Y letters of a key are odd in number, else 0. It is a number, as the bits of a gate are: the table keeps it as a bit and a sine is
-// chosen by it, and a branch on it would often be predicted wrongly.
+// chosen by it, and a branch on it would often be predicted wrongly (docs/DECISIONS.md has what branches cost).
 #[tactic(auto, using(terms::proofs::YLaws::odd_same))]
 pub(crate) fn key_odd(key: &[u64], w: usize) -> usize
     ensures { (is_odd result ≡ odd_y w key.now) × (result < 2) }
@@ -102,14 +103,14 @@ pub(crate) fn sought_word(v: u64, k: usize, w: usize, sought: Sought) -> u64
 
 // Whether the key of row j is that looked for from row i.
 #[tactic(auto, using(crate::proofs::ProbeLaws::probe_differs, crate::proofs::ProbeLaws::probe_same))]
-pub(crate) fn is_sought(words: &[u64], w: usize, i: usize, j: usize, sought: Sought) -> bool
-    requires { (i * (2 * w) + 2 * w ≤ length words.now) × (j * (2 * w) + 2 * w ≤ length words.now) }
-    ensures { result ≡ same_key (key_at (2 * w) words.now j) (sought_by w sought (key_at (2 * w) words.now i)) }
+pub(crate) fn is_sought(rows: &Rows<'_>, i: usize, j: usize, sought: Sought) -> bool
+    requires { HasKey rows.now i × HasKey rows.now j }
+    ensures { result ≡ same_key (row_key rows.now j) (sought_by rows.now.w sought (row_key rows.now i)) }
 {
-    let own = i * (2 * w);
-    let other = j * (2 * w);
-    for k in 0..2 * w {
-        if words[other + k] != sought_word(words[own + k], k, w, sought) {
+    let own = i * (2 * rows.w);
+    let other = j * (2 * rows.w);
+    for k in 0..2 * rows.w {
+        if rows.words[other + k] != sought_word(rows.words[own + k], k, rows.w, sought) {
             return false;
         }
     }
@@ -117,12 +118,12 @@ pub(crate) fn is_sought(words: &[u64], w: usize, i: usize, j: usize, sought: Sou
 }
 
 // The first row below n that has the key looked for from row i, by a look at each.
-pub(crate) fn scan(words: &[u64], w: usize, n: usize, sought: Sought, i: usize) -> Option<usize>
-    requires { (n * (2 * w) ≤ length words.now) × (i * (2 * w) + 2 * w ≤ length words.now) }
-    ensures { result ≡ first (λ j. same_key (key_at (2 * w) words.now j) (sought_by w sought (key_at (2 * w) words.now i))) n }
+pub(crate) fn scan(rows: &Rows<'_>, n: usize, sought: Sought, i: usize) -> Option<usize>
+    requires { HasKeys rows.now n × HasKey rows.now i }
+    ensures { result ≡ first (λ j. same_key (row_key rows.now j) (sought_by rows.now.w sought (row_key rows.now i))) n }
 {
     for j in 0..n {
-        if is_sought(words, w, i, j, sought) {
+        if is_sought(rows, i, j, sought) {
             return Some(j);
         }
     }

@@ -1,16 +1,17 @@
 // A Pauli rotation on every term: t, tdg, rz, p and rzz.
-ghost use Rattle.std.specs.Prelude.{◌≡◌, Option, not, map, ◌+◌, ◌*◌, ◌≤◌, ◌<◌, length};
+ghost use Rattle.std.specs.Prelude.{◌≡◌, Option, not, ◌+◌, ◌*◌, ◌≤◌, ◌<◌, length};
 ghost use Rattle.words.specs.Letters.{is_odd};
 ghost use Rattle.terms.specs.Rotation.{mixed};
 ghost use Rattle.terms.specs.Met.{targets, axis_targets};
-ghost use Rattle.rows.specs.Rows.{coeff_at, term_at, terms_in, met_in, put_coeff, Room, Holds};
-ghost use Rattle.branches.specs.Pairs.{Tabled};
+ghost use Rattle.rows.specs.Rows.{coeff_at, met_in, put_coeff, Holds};
+ghost use Rattle.rows.specs.Lent.{row_terms, HasRows, OnRows};
+ghost use Rattle.branches.specs.Index.{Tables};
 ghost use Rattle.branches.specs.Rotated.{Rotated, met_factor, lone_by, row_by, rows_by};
 
 use crate::scaling::scale_rows;
-use crate::{Mate, pairs, partners, probe};
-use rows::letters::{has_targets, met_rows};
-use rows::{Step, row};
+use crate::{Index, Mate, pairs, partners, probe};
+use rows::letters::has_targets;
+use rows::{Rows, Step};
 use terms::{Axis, number};
 
 // A rotation about the Paulis of its targets, with the sine and the cosine of its angle.
@@ -45,96 +46,83 @@ fn pair_rows(coeffs: &mut [f64], i: usize, j: usize, odd: usize, rotation: Rotat
 }
 
 // Row i without a partner: rewritten where the cosine is 0, else scaled, with its partner's word appended as row m.
-fn lone_row(
-    words: &mut [u64],
-    coeffs: &mut [f64],
-    w: usize,
-    m: usize,
-    i: usize,
-    rotation: Rotation,
-) -> usize
-    requires { (i < m) × Room (2 * w) (m + 1) words.old coeffs.old }
-    ensures { (m ≤ result) × (result ≤ m + 1) × Holds (2 * w) result result (lone_by w rotation i (terms_in (2 * w) m words.old coeffs.old))
-        words.old words.new coeffs.old coeffs.new }
+fn lone_row(rows: &mut Rows<'_>, m: usize, i: usize, rotation: Rotation) -> usize
+    requires { (i < m) × HasRows rows.old (m + 1) }
+    ensures { (m ≤ result) × (result ≤ m + 1)
+        × OnRows (Holds (2 * rows.old.w) result result (lone_by rows.old.w rotation i (row_terms rows.old m))) rows.old rows.new }
 {
-    let c = coeffs[i];
-    let odd = probe::key_odd(probe::key(words, w, i), w);
+    let w = rows.w;
+    let c = rows.coeffs[i];
+    let odd = probe::key_odd(probe::key(rows, i), w);
     let turned = number::flipped(c, odd, rotation.sin);
     if rotation.cos == 0.0 {
-        partners::flip_row(words, w, i, rotation.axis);
-        coeffs[i] = turned;
+        partners::flip_row(rows, i, rotation.axis);
+        rows.coeffs[i] = turned;
         return m;
     }
-    coeffs[i] = number::scaled(c, rotation.cos);
-    partners::append_partner(words, coeffs, w, m, i, rotation.axis, turned);
+    rows.coeffs[i] = number::scaled(c, rotation.cos);
+    partners::append_partner(rows, m, i, rotation.axis, turned);
     m + 1
 }
 
 fn branch_row(
-    words: &mut [u64],
-    coeffs: &mut [f64],
-    index: &[u32],
-    buckets: Option<usize>,
-    w: usize,
+    rows: &mut Rows<'_>,
+    table: &Option<Index<'_>>,
     n: usize,
     m: usize,
     i: usize,
     rotation: Rotation,
 ) -> usize
-    requires { (i < n) × (n ≤ m) × Room (2 * w) (m + 1) words.old coeffs.old
-        × Tabled rotation.axis w words.old n i buckets index.now }
-    ensures { (m ≤ result) × (result ≤ m + 1) × Holds (2 * w) result result (row_by w rotation n i (terms_in (2 * w) m words.old coeffs.old))
-        words.old words.new coeffs.old coeffs.new }
+    requires { (i < n) × (n ≤ m) × HasRows rows.old (m + 1) × Tables rotation.axis rows.old n i table.now }
+    ensures { (m ≤ result) × (result ≤ m + 1)
+        × OnRows (Holds (2 * rows.old.w) result result (row_by rows.old.w rotation n i (row_terms rows.old m))) rows.old rows.new }
 {
-    match pairs::find(words, w, n, index, buckets, rotation.axis, i) {
+    match pairs::find(rows, table, n, rotation.axis, i) {
         Mate::Done => m,
-        Mate::Lone => lone_row(words, coeffs, w, m, i, rotation),
+        Mate::Lone => lone_row(rows, m, i, rotation),
         Mate::Later(j, odd) => {
-            pair_rows(coeffs, i, j, odd, rotation);
+            pair_rows(rows.coeffs, i, j, odd, rotation);
             m
         }
     }
 }
 
 fn branch_rows(
-    words: &mut [u64],
-    coeffs: &mut [f64],
-    index: &[u32],
-    buckets: Option<usize>,
-    w: usize,
+    rows: &mut Rows<'_>,
+    table: &Option<Index<'_>>,
     n: usize,
     rotation: Rotation,
 ) -> usize
-    requires { Room (2 * w) (2 * n) words.old coeffs.old × Tabled rotation.axis w words.old n 0 buckets index.now }
-    ensures { (result ≤ 2 * n) × Holds (2 * w) result result (rows_by w rotation n n (terms_in (2 * w) n words.old coeffs.old))
-        words.old words.new coeffs.old coeffs.new }
+    requires { HasRows rows.old (2 * n) × Tables rotation.axis rows.old n 0 table.now }
+    ensures { (result ≤ 2 * n)
+        × OnRows (Holds (2 * rows.old.w) result result (rows_by rows.old.w rotation n n (row_terms rows.old n))) rows.old rows.new }
 {
     let mut m = n;
     for i in 0..n {
-        m = branch_row(words, coeffs, index, buckets, w, n, m, i, rotation);
+        m = branch_row(rows, table, n, m, i, rotation);
     }
     m
 }
 
-fn branch(
-    words: &mut [u64],
-    coeffs: &mut [f64],
-    index: &mut [u32],
-    w: usize,
-    n: usize,
-    rotation: Rotation,
-) -> usize
-    ensures { Rotated w n rotation.axis rotation.sin rotation.cos result words.old words.new coeffs.old coeffs.new }
+fn branch(rows: &mut Rows<'_>, memory: &mut [u32], n: usize, rotation: Rotation) -> usize
+    ensures { OnRows (Rotated rows.old.w n rotation.axis rotation.sin rotation.cos result) rows.old rows.new }
 {
-    if row::rows_in(words.len(), coeffs.len(), w) / 2 < n {
+    rows.fits64();
+    if rows.count() / 2 < n {
         return n;
     }
+    // The rows as a value of this function's own: through the reference the loops would read its slices again for each row.
+    let mut lent = Rows {
+        words: rows.words,
+        coeffs: rows.coeffs,
+        w: rows.w,
+    };
     if rotation.sin == 0.0 {
-        scale_rows(words, coeffs, w, n, |key| met_factor(key, rotation));
+        scale_rows(&mut lent, n, |key| met_factor(key, rotation));
         return n;
     }
-    let buckets = pairs::table(words, w, n, rotation.axis, index);
-    branch_rows(words, coeffs, index, buckets, w, n, rotation)
+    let table = pairs::table(&lent, memory, n, rotation.axis);
+    branch_rows(&mut lent, &table, n, rotation)
 }
 
 // The targets of a rotation: one, and a second where there is one.
@@ -151,21 +139,21 @@ fn targets_of(axis: Axis) -> (usize, Option<usize>)
 // changes; and how many of the first n had a letter on at least one target. Where none had, nothing changes and no row is touched. What the memory of
 // the index then holds is free, but for its length.
 pub fn branch_rotation(
-    words: &mut [u64],
-    coeffs: &mut [f64],
-    index: &mut [u32],
-    w: usize,
+    rows: &mut Rows<'_>,
+    memory: &mut [u32],
     n: usize,
     rotation: Rotation,
 ) -> Step
-    ensures { ((result.met ≡ met_in w (axis_targets rotation.axis) n words.old coeffs.old)
-        × Rotated w n rotation.axis rotation.sin rotation.cos result.count words.old words.new coeffs.old coeffs.new) × (length index.new ≡ length index.old) }
+    ensures met { result.met ≡ met_in rows.old.w (axis_targets rotation.axis) n rows.old.words.now rows.old.coeffs.now }
+    ensures terms { OnRows (Rotated rows.old.w n rotation.axis rotation.sin rotation.cos result.count) rows.old rows.new }
+    ensures index { length memory.new ≡ length memory.old }
 {
+    rows.fits64();
     let (a, second) = targets_of(rotation.axis);
-    let met = met_rows(words, coeffs, w, n, a, second);
-    if met == 0 && has_targets(w, a, second) {
+    let met = rows.met(n, a, second);
+    if met == 0 && has_targets(rows.w, a, second) {
         return Step { count: n, met };
     }
-    let count = branch(words, coeffs, index, w, n, rotation);
+    let count = branch(rows, memory, n, rotation);
     Step { count, met }
 }

@@ -2,32 +2,28 @@
 ghost use Rattle.std.specs.Prelude.{◌≡◌, Option, map, ◌*◌, ◌<◌, ℕ, Float};
 ghost use Rattle.std.specs.Fn.{FnReturnsAt};
 ghost use Rattle.words.specs.Keys.{Key};
-ghost use Rattle.words.specs.Rows.{key_at};
-ghost use Rattle.terms.specs.Term.{Term};
-ghost use Rattle.rows.specs.Rows.{terms_in, Room, Holds};
+ghost use Rattle.rows.specs.Rows.{Holds};
+ghost use Rattle.rows.specs.Lent.{row_key, row_terms, HasRows, SameRows};
 ghost use Rattle.branches.specs.Scaling.{scaled_at};
 
 use crate::probe;
+use rows::Rows;
 use terms::number;
 
 // Each of the first n rows, times the factor that the closure gives its key, where it gives one; the number of another row is not written. In the
 // contract f is any function of keys that agrees with the closure at these rows.
-pub(crate) fn scale_rows<F: Fn(&[u64]) -> Option<f64>>(
-    words: &[u64],
-    coeffs: &mut [f64],
-    w: usize,
-    n: usize,
-    factor: F,
-)
+pub(crate) fn scale_rows<F: Fn(&[u64]) -> Option<f64>>(rows: &mut Rows<'_>, n: usize, factor: F)
     requires callable { F.IsAlwaysCallable factor }
-    requires room { Room (2 * w) n words.now coeffs.old }
-    ensures { (f : Key → Option Float)
-        → ((i : ℕ) (r : Option Float) → i < n → FnReturnsAt F.Fn factor (key_at (2 * w) words.now i) r → r ≡ f (key_at (2 * w) words.now i))
-        → Holds (2 * w) n n (map (scaled_at f) (terms_in (2 * w) n words.now coeffs.old)) words.now words.now coeffs.old coeffs.new }
+    requires room { HasRows rows.old n }
+    ensures same { SameRows rows.old rows.new }
+    ensures scaled { (f : Key → Option Float)
+        → ((i : ℕ) (r : Option Float) → i < n → FnReturnsAt F.Fn factor (row_key rows.old i) r → r ≡ f (row_key rows.old i))
+        → Holds (2 * rows.old.w) n n (map (scaled_at f) (row_terms rows.old n))
+        rows.old.words.now rows.new.words.now rows.old.coeffs.now rows.new.coeffs.now }
 {
     for i in 0..n {
-        if let Some(f) = factor(probe::key(words, w, i)) {
-            coeffs[i] = number::scaled(coeffs[i], f);
+        if let Some(f) = factor(probe::key(rows, i)) {
+            rows.coeffs[i] = number::scaled(rows.coeffs[i], f);
         }
     }
 }

@@ -1,4 +1,4 @@
-// The lines of a sheet, by the places where they start.
+// The lines of a sheet, by the places where they start. A place is a number beside the text and no cursor of its own: a head keeps eight places of one text.
 ghost use Rattle.std.specs.Prelude.{◌≡◌};
 ghost use Rattle.layout.specs.Cursor.{line_at, next_at, start_at};
 

@@ -5,7 +5,7 @@ ghost use Rattle.ops.specs.Sets.{list_of, meets_set, join_set, grown_by, letter_
 use crate::marks::Targets;
 use words::keys::get_bit;
 
-// Whether each qubit below 256 is in the set. A qubit at or past 256 is in no set.
+// Whether each qubit below 256 is in the set. A qubit at or past 256 is in no set. An array, so that a set needs no heap.
 #[derive(Drop)]
 pub(crate) struct QubitSet {
     members: [bool; 256],
@@ -98,15 +98,15 @@ impl QubitSet {
             members: [false; 256],
         };
         for i in 0..n {
-            let size = 2 * w;
-            let base = i * size;
-            set.add_letters(w, &keys[base..base + size]);
+            let base = i * (2 * w);
+            set.add_letters(w, &keys[base..base + 2 * w]);
         }
         set
     }
 }
 
-// Whether a word has a letter at a qubit. It is asked once for each qubit of a line, so a bool serves: rows has a number for it, asked of each row.
+// Whether a word has a letter at a qubit that it may not have words for. It is asked once for each qubit of a line, so a bool serves: rows has a number for
+// it, asked of each row.
 fn has_letter(w: usize, key: &[u64], q: usize) -> bool
     ensures { result ≡ letter_in w key.now q }
 {

@@ -7,7 +7,7 @@ use replies::printed::printed;
 use sheet::answer::answer;
 
 // Answers the bytes of a sheet of any length, in lent rows, index and mean places of any lengths, and writes the text of the reply from the start of
-// `out` on, as far as `out` reaches. Gives how many bytes were written.
+// `out` on, as far as `out` reaches. Gives how many bytes were written. The slices are parameters of their own, as C lends them.
 #[unsafe(no_mangle)]
 pub extern "C" fn qubit_bench_answer(
     sheet: &[u8],

@@ -2,6 +2,7 @@
 // stores one number; its coefficient's parts are read from that and from its word.
 use published::complex_of;
 use replies::Page;
+use rows::Rows;
 
 // Whether a row is zero: its words and its number.
 fn is_zero_row(row: &[u64], v: f64) -> bool {
@@ -34,10 +35,13 @@ fn write_row(page: &mut Page<'_>, row: &[u64], w: usize, v: f64) {
 }
 
 // Writes the rows up to the last that is not zero, of w words x and w words z each. Where w is 0 a row is its number alone.
-pub(crate) fn write_rows(page: &mut Page<'_>, words: &[u64], coeffs: &[f64], w: usize) {
+pub(crate) fn write_rows(page: &mut Page<'_>, rows: &Rows<'_>) {
+    let w = rows.w;
     if 4 < w {
         return;
     }
+    let words = &*rows.words;
+    let coeffs = &*rows.coeffs;
     let size = 2 * w;
     let mut left = 0;
     for (i, (row, v)) in words.chunks(size.max(1)).zip(coeffs).enumerate() {

@@ -3,11 +3,13 @@ use crate::rowtext::write_rows;
 use layout::heads::read_head;
 use lines::fields::read_count;
 use replies::{Page, Reply};
+use rows::Rows;
 use sheet::answer::answer;
 use text::parts::{part_after, part_before, part_from, part_to};
 use words::rows::width;
 
-// The reply to a sheet that is longer than the longest: status 1 at line 0. The function of sheet that makes it, `refusal`, is not public.
+// The reply to a sheet that is longer than the longest: status 1 at line 0. The function of sheet that makes it, `refusal`, is not public, and
+// these nine fields are no longer than a public function for one caller.
 fn too_long() -> Reply {
     Reply {
         status: 1,
@@ -30,7 +32,12 @@ fn write_answer(page: &mut Page<'_>, s: &[u8]) {
     let mut means = [0.0f64; 256];
     let reply = answer(s, &mut words, &mut coeffs, &mut lookup, &mut means);
     page.write_reply(reply, &means);
-    write_rows(page, &words, &coeffs, width(read_head(s).qubits));
+    let rows = Rows {
+        words: &mut words,
+        coeffs: &mut coeffs,
+        w: width(read_head(s).qubits),
+    };
+    write_rows(page, &rows);
 }
 
 // Writes what is printed for a sheet: its number in the stream, its printed lines and the rows that are left. A sheet has at most 65,536

@@ -1,6 +1,6 @@
 -- Terms in two lent buffers. A row has s words, its key, and one number: row i has the s words from i * s on, where s is 2 * W,
 -- and the number i. "There are as many rows as every lent row buffer holds whole."
-use Rattle.std.specs.Prelude.{◌≡◌, ℕ, ◌+◌, ◌-◌, ◌*◌, ◌/◌, ◌≤◌, min, cond, ◌&&◌, Option, Some, None, List, [], ◌∷◌, ◌++◌, leb, length, take, drop, get_or, set, replicate, Float}
+use Rattle.std.specs.Prelude.{◌≡◌, ℕ, ◌+◌, ◌-◌, ◌*◌, ◌/◌, ◌≤◌, min, cond, ◌&&◌, List, [], ◌∷◌, ◌++◌, leb, length, take, drop, get_or, set, replicate, Float}
 use Rattle.std.specs.Float.{nan}
 use Rattle.numbers.specs.Constants.{zero64}
 use Rattle.words.specs.Keys.{Key}
@@ -66,6 +66,10 @@ put_coeff cs i v = set cs i v
 
 abbrev pub put_key : ℕ → List ℕ → ℕ → Key → List ℕ
 put_key s ws i k = take (i * s) ws ++ (k ++ drop (i * s + s) ws)
+
+-- row i has become the term t
+abbrev pub Stored : ℕ → ℕ → Term → List ℕ → List ℕ → List Float → List Float → Type 0
+Stored s i t ws ws' cs cs' = (ws' ≡ put_key s ws i t.key) × (cs' ≡ put_coeff cs i t.coeff)
 
 -- the key of one row copied to another, where both are there whole
 unfoldable pub copied_row : ℕ → List ℕ → ℕ → ℕ → List ℕ

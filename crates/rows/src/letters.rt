@@ -2,24 +2,11 @@
 ghost use Rattle.std.specs.Prelude.{◌≡◌, ℕ, cond, Option, ◌+◌, ◌*◌, ◌/◌, ◌≤◌, ◌<◌, length};
 ghost use Rattle.words.specs.Keys.{has_letter};
 ghost use Rattle.terms.specs.Met.{targets, in_words};
-ghost use Rattle.words.specs.Rows.{key_at};
-ghost use Rattle.rows.specs.Rows.{rows_in, met_in};
+ghost use Rattle.rows.specs.Rows.{met_in};
+ghost use Rattle.rows.specs.Lent.{row_key};
 
-use crate::row;
+use crate::Rows;
 use words::gates::word_bit;
-
-// 1 if row i has a letter at a qubit that the words have, else 0. A letter is a number, as the bits of a gate are, and its two words are read
-// by their places: this is done for every row and every op.
-#[tactic(auto, using(crate::proofs::LetterRows::letter_bits))]
-fn letter_at(words: &[u64], w: usize, i: usize, q: usize) -> u64
-    requires { (i * (2 * w) + 2 * w ≤ length words.now) × (q / 64 < w) }
-    ensures { result ≡ cond (has_letter w (key_at (2 * w) words.now i) q) 1 0 }
-{
-    let at = i * (2 * w) + q / 64;
-    let x = word_bit(words[at], q);
-    let z = word_bit(words[at + w], q);
-    x | z
-}
 
 // The sum of the letters of the first n rows. It is a count: m is any that begins at 0 and grows at each row by the row's letter.
 fn count_rows<F: Fn(usize) -> u64>(n: usize, letter: F) -> usize
@@ -41,25 +28,31 @@ pub fn has_targets(w: usize, a: usize, b: Option<usize>) -> bool
     a / 64 < w && b.is_none_or(|b| b / 64 < w)
 }
 
-// How many of the first n terms have a letter at a or, with a second target, at b; none where there are not that many rows, or no words for the
-// targets.
-pub fn met_rows(
-    words: &[u64],
-    coeffs: &[f64],
-    w: usize,
-    n: usize,
-    a: usize,
-    b: Option<usize>,
-) -> usize
-    ensures { result ≡ met_in w (targets a b) n words.now coeffs.now }
-{
-    if row::rows_in(words.len(), coeffs.len(), w) < n || !has_targets(w, a, b) {
-        return 0;
+impl Rows<'_> {
+    // 1 if row i has a letter at a qubit that the words have, else 0. A letter is a number, as the bits of a gate are, and its two words are read
+    // by their places: this is done for every row and every op.
+    #[tactic(auto, using(crate::proofs::LetterRows::letter_bits))]
+    fn letter_at(&self, i: usize, q: usize) -> u64
+        requires { (i * (2 * self.now.w) + 2 * self.now.w ≤ length self.now.words.now) × (q / 64 < self.now.w) }
+        ensures { result ≡ cond (has_letter self.now.w (row_key self.now i) q) 1 0 }
+    {
+        let at = i * (2 * self.w) + q / 64;
+        let x = word_bit(self.words[at], q);
+        let z = word_bit(self.words[at + self.w], q);
+        x | z
     }
-    match b {
-        None => count_rows(n, |i| letter_at(words, w, i, a)),
-        Some(b) => count_rows(n, |i| {
-            letter_at(words, w, i, a) | letter_at(words, w, i, b)
-        }),
+
+    // How many of the first n terms have a letter at a or, with a second target, at b; none where there are not that many rows, or no words for the
+    // targets.
+    pub fn met(&self, n: usize, a: usize, b: Option<usize>) -> usize
+        ensures { result ≡ met_in self.now.w (targets a b) n self.now.words.now self.now.coeffs.now }
+    {
+        if self.count() < n || !has_targets(self.w, a, b) {
+            return 0;
+        }
+        match b {
+            None => count_rows(n, |i| self.letter_at(i, a)),
+            Some(b) => count_rows(n, |i| self.letter_at(i, a) | self.letter_at(i, b)),
+        }
     }
 }

@@ -1,15 +1,38 @@
-// One row of the two lent buffers. A row has `size` words and one number.
+// One row of the two lent buffers, and how many there are.
 ghost use Rattle.std.specs.Prelude.{◌≡◌, ◌*◌, ◌/◌, ◌+◌, min, leb};
+ghost use Rattle.words.specs.Keys.{Words};
 ghost use Rattle.rows.specs.Rows.{copied_row};
+ghost use Rattle.rows.specs.Lent.{row_count};
 
-use words::rows::rows_of;
+use crate::Rows;
 
-// How many rows two buffers of these lengths hold whole.
+// How many rows two buffers of these lengths hold whole. Of lengths: sheet asks it of memory that is no rows yet.
 pub fn rows_in(words: usize, coeffs: usize, w: usize) -> usize
     ensures { result ≡ min (words / (2 * w)) coeffs }
 {
-    rows_of(words, w).min(coeffs)
+    words::rows::rows_of(words, w).min(coeffs)
 }
+
+impl Rows<'_> {
+    // How many rows the buffers hold whole.
+    pub fn count(&self) -> usize
+        ensures { result ≡ row_count self.now }
+    {
+        rows_in(self.words.len(), self.coeffs.len(), self.w)
+    }
+
+    // Every word fits in 64 bits.
+    pub fn fits64(&self)
+        ensures { Words self.now.words.now }
+    {
+        fits64(self.words);
+    }
+}
+
+// Every word fits in 64 bits: the prover knows it of a slice that is itself a parameter.
+pub fn fits64(words: &[u64])
+    ensures { Words words.now }
+{}
 
 // Whether row i of `size` words lies whole within `len` words. In 128 bits the product fits.
 fn holds_row(len: usize, size: usize, i: usize) -> bool
@@ -18,7 +41,7 @@ fn holds_row(len: usize, size: usize, i: usize) -> bool
     i as u128 * size as u128 + size as u128 <= len as u128
 }
 
-// The key of a row, copied to another row; where one of the two is not there whole nothing changes.
+// The key of a row of `size` words, copied to another row; where one of the two is not there whole nothing changes.
 #[tactic(auto, using(crate::proofs::RowAccess::copied_from, crate::proofs::RowAccess::copied_to, crate::proofs::RowAccess::copied_at))]
 pub fn copy_row(words: &mut [u64], size: usize, from: usize, to: usize)
     ensures { words.new ≡ copied_row size words.old from to }

@@ -34,6 +34,7 @@ use Rattle.layout.proofs.LoadLaws.{rows_hold, ops_loaded, lines_loaded, lines_ke
 use Rattle.replies.specs.declared.Reply.{Reply}
 use Rattle.questions.specs.Verdict.{Verdict, RefusedAt, Passed}
 use Rattle.questions.specs.Questions.{question2, verdict, early_verdict, later_verdict}
+use Rattle.rows.specs.declared.Rows.{Rows}
 use Rattle.questions.proofs.VerdictLaws.{early_laid, early_passed, early_refused}
 use Rattle.sheet.specs.Answer.{limits_of, refusal, task_of, run_of, reply_to, reply_of, LeavesBy, Leaves, Answered}
 use Rattle.sheet.specs.Running.{LinesRoom, Sound, reply_end, table_task, table_run, Runnable, Ended, Replied}
@@ -74,11 +75,13 @@ module _ (h : Head) (ls : List (List ℕ)) (e : early_verdict h ls ≡ Passed) w
   few_terms = leb-true h.terms 1024 (and_true (leb h.terms 1024) (leb h.terms h.limit) second.terms).0
 
   -- a table for n lines that is zeros
-  pub lines_room : (n : ℕ) (keys : List ℕ) (weights : List Float) → h.terms ≤ n → length keys ≡ 8 * n → keys ≡ replicate (8 * n) 0 → length weights ≡ n → LinesRoom h keys weights
-  lines_room n keys weights few lk blank lw =
+  pub lines_room : (n : ℕ) (t : Rows) → t.w ≡ width_of h.qubits → h.terms ≤ n → length t.words.now ≡ 8 * n → t.words.now ≡ replicate (8 * n) 0 → length t.coeffs.now ≡ n
+      → LinesRoom h t
+  lines_room n t wide few lk blank lw =
       let q = leb-true h.qubits 256 (and_true (leb 1 h.qubits) (leb h.qubits 256) second.qubits).1 in
       let r = wide_room (width_of h.qubits) h.terms n (omega (arith, q)) few in
       record {
+        width = wide;
         long = omega (arith, r, lk);
         blank = blank ∙ ap (λ (x : ℕ). replicate x 0) (sym lk);
         long' = omega (arith, few, lw);
@@ -87,10 +90,9 @@ module _ (h : Head) (ls : List (List ℕ)) (e : early_verdict h ls ≡ Passed) w
 -- ---- the run of a sheet that passed, from its table
 module _ (h : Head) (ls : List (List ℕ)) (os : List Op) (ws : List ℕ) (cs ms : List Float) (ix : List ℕ) (laid : question1 h ls ≡ None) (table : os ≡ sheet_ops h ls)
     (passed : verdict h ls (rows_in (width_of h.qubits) ws cs) (length ms) ≡ Passed)
-    (w : ℕ) (ew : w ≡ width_of h.qubits) (keys₀ keys : List ℕ) (weights₀ weights : List Float) (room : LinesRoom h keys₀ weights₀)
-    (given : LinesLoaded w h ls keys₀ keys weights₀ weights) where
-  loaded : LinesLoaded (width_of h.qubits) h ls keys₀ keys weights₀ weights
-  loaded = subst (λ (x : ℕ). LinesLoaded x h ls keys₀ keys weights₀ weights) ew given
+    (t : Rows) (room : LinesRoom h t) {keys : List ℕ} {weights : List Float} (given : LinesLoaded t.w h ls t.words.now keys t.coeffs.now weights) where
+  loaded : LinesLoaded (width_of h.qubits) h ls t.words.now keys t.coeffs.now weights
+  loaded = subst (λ (x : ℕ). LinesLoaded x h ls t.words.now keys t.coeffs.now weights) room.width given
 
   answers : Yes (question2 h) (term_lines h ls) (sheet_ops h ls)
   answers = yes_of (question2 h) h.terms (term_lines h ls) (sheet_ops h ls) (answers_of h ls _ _ passed).two
@@ -110,7 +112,7 @@ module _ (h : Head) (ls : List (List ℕ)) (os : List Op) (ws : List ℕ) (cs ms
       ap (λ (n : ℕ). tab n (table_line (width_of h.qubits) keys front)) front_long
       ∙ tab_ext h.terms (table_line (width_of h.qubits) keys front) (table_line (width_of h.qubits) keys weights)
       (λ j l k. record { key = key_at (2 * width_of h.qubits) keys j; weight = get_or-take h.terms weights j nan l k })
-      ∙ lines_loaded (width_of h.qubits) h ls keys₀ keys weights₀ weights loaded room.long room.long' room.blank laid
+      ∙ lines_loaded (width_of h.qubits) h ls t.words.now keys t.coeffs.now weights loaded room.long room.long' room.blank laid
 
   same_task_lem : table_task h keys front os ≡ task_of h ls
   same_task_lem =
@@ -187,3 +189,8 @@ answered_refused s ws cs ms ix r h n k eh ev g =
     let e = subst (λ (x : Head). early_verdict x (parts newline s) ≡ RefusedAt n k) eh (sym ev) in
     answered_by s ws ws cs cs ms ms ix ix r (RefusedAt n k) (early_refused (head_of (parts newline s)) (parts newline s) _ _ n k e)
     (record { reply = g; memory = record { words = refl; coeffs = refl; means = refl; index = refl } })
+
+-- what is known of the lists that the slices hold in the end
+pub answered_left : {s : List ℕ} {r : Reply} {ws ws' ws'' : List ℕ} {cs cs' cs'' ms ms' : List Float} {ix ix' ix'' : List ℕ} → Answered s r ws ws' cs cs' ms ms' ix ix'
+    → ws'' ≡ ws' → cs'' ≡ cs' → ix'' ≡ ix' → Answered s r ws ws'' cs cs'' ms ms' ix ix''
+answered_left A ew ec ex = rw (ew, ec, ex) A

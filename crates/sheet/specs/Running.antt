@@ -2,12 +2,15 @@
 use Rattle.std.specs.Prelude.{◌≡◌, ℕ, ◌*◌, ◌≤◌, true, List, length, replicate, Float, Result, Ok, Err, None}
 use Rattle.numbers.specs.Shown.{shown_of}
 use Rattle.words.specs.Keys.{width_of}
+use Rattle.rows.specs.declared.Rows.{Rows}
 use Rattle.rows.specs.Rows.{rows_in}
 use Rattle.ops.specs.declared.Op.{Op}
 use Rattle.ops.specs.declared.Refusal.{Refusal}
 use Rattle.ops.specs.Refusals.{number_of}
 use Rattle.dynamics.specs.Turn.{Stage, Outcome}
 use Rattle.turns.specs.declared.Finished.{Finished}
+use Rattle.turns.specs.declared.Memory.{Memory}
+use Rattle.turns.specs.Lent.{OnMemory}
 use Rattle.turns.specs.SumRuns.{sum_fits, told_by, results_of}
 use Rattle.ops.specs.declared.Run.{Run}
 use Rattle.ops.specs.declared.Run.TheVariants.{Full, Cone, All, Path, Wide}
@@ -44,6 +47,10 @@ pub record Runnable (h : Head) (keys : List ℕ) (weights : List Float) (os : Li
   pub given : sum_fits h.qubits (limits_of h) keys weights os ≡ true
   pub room : question7 h (rows_in (width_of h.qubits) ws cs) (length ms) ≡ true
 
+-- what is said of the lent memory and the mean places
+abbrev pub OnLent : (List ℕ → List ℕ → List Float → List Float → List Float → List Float → List ℕ → List ℕ → Type 0) → Memory → Memory → List Float → List Float → Type 0
+OnLent P m m' ms ms' = OnMemory (λ ws ws' cs cs' ix ix'. P ws ws' cs cs' ms ms' ix ix') m m'
+
 -- answer and memory after the run
 pub record Ended (h : Head) (run : Stage Outcome) (r : Result Finished Refusal) (ws ws' : List ℕ) (cs cs' ms ms' : List Float) (ix ix' : List ℕ) : Type 0 where
   pub answer : told_by r ≡ results_of run
@@ -54,11 +61,12 @@ table_run h keys weights os = outcome_of h.run (table_task h keys weights os)
 
 -- ---- the steps of `answer`
 
--- a blank table with room for a sheet's lines
-pub record LinesRoom (h : Head) (keys : List ℕ) (weights : List Float) : Type 0 where
-  pub long : h.terms * (2 * width_of h.qubits) ≤ length keys
-  pub blank : keys ≡ replicate (length keys) 0
-  pub long' : h.terms ≤ length weights
+-- a blank table with room for a sheet's lines, at the width of its qubits
+pub record LinesRoom (h : Head) (t : Rows) : Type 0 where
+  pub width : t.w ≡ width_of h.qubits
+  pub long : h.terms * (2 * width_of h.qubits) ≤ length t.words.now
+  pub blank : t.words.now ≡ replicate (length t.words.now) 0
+  pub long' : h.terms ≤ length t.coeffs.now
 
 -- the sheet passes questions 1 and 2, and os is its op list
 pub record Sound (h : Head) (ls : List (List ℕ)) (os : List Op) : Type 0 where

@@ -10,7 +10,7 @@ ghost use Rattle.sums.specs.Through.{Through};
 use crate::gates::conjugate_row;
 use words::Gate;
 
-// Each of the first n rows, through the gate that the closure gives.
+// Each of the first n rows, through the gate that the closure gives. The slices of the rows are parameters of their own here and below: `conjugate_row` says why.
 pub(crate) fn gate_rows<G: FnOnce() -> Gate>(
     words: &mut [u64],
     coeffs: &mut [f64],

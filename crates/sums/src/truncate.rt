@@ -1,81 +1,77 @@
 // The terms of a size of at least epsilon, moved together.
-ghost use Rattle.std.specs.Prelude.{◌≡◌, ◌+◌, ◌*◌, ◌≤◌, ◌<◌, length};
+ghost use Rattle.std.specs.Prelude.{◌≡◌, ◌*◌, ◌≤◌};
 ghost use Rattle.terms.specs.Truncation.{kept_of, dropped_of};
-ghost use Rattle.words.specs.Rows.{key_at};
-ghost use Rattle.rows.specs.Rows.{coeff_at, terms_in, put_key, put_coeff, Room, Holds};
+ghost use Rattle.rows.specs.Rows.{Stored, Holds};
+ghost use Rattle.rows.specs.Lent.{row_term, row_terms, HasRow, HasRows, OnRows};
 ghost use Rattle.sums.specs.Steps.{KeptRow, Truncated};
 
 use crate::Kept;
 use numbers::tests::absolute;
-use rows::clear::clear_rows;
-use rows::row;
+use rows::{Rows, row};
 
 // Row i, moved to row k, which is i or before it.
-fn move_row(words: &mut [u64], coeffs: &mut [f64], size: usize, i: usize, k: usize)
-    requires { (k ≤ i) × (i * size + size ≤ length words.old) × (i < length coeffs.old) }
-    ensures { (words.new ≡ put_key size words.old k (key_at size words.old i))
-        × (coeffs.new ≡ put_coeff coeffs.old k (coeff_at coeffs.old i)) }
+fn move_row(rows: &mut Rows<'_>, i: usize, k: usize)
+    requires { (k ≤ i) × HasRow rows.old i }
+    ensures { OnRows (Stored (2 * rows.old.w) k (row_term rows.old i)) rows.old rows.new }
 {
     if k < i {
-        row::copy_row(words, size, i, k);
-        coeffs[k] = coeffs[i];
+        row::copy_row(rows.words, 2 * rows.w, i, k);
+        rows.coeffs[k] = rows.coeffs[i];
     }
 }
 
 // Row i, moved to the end of the rows kept so far, or its size added to what is dropped.
-fn keep_row(
-    words: &mut [u64],
-    coeffs: &mut [f64],
-    size: usize,
-    i: usize,
-    kept: Kept,
-    epsilon: f64,
-) -> Kept
-    requires { (kept.count ≤ i) × ((i * size + size ≤ length words.old) × (i < length coeffs.old)) }
-    ensures { KeptRow size i epsilon kept result words.old words.new coeffs.old coeffs.new }
+fn keep_row(rows: &mut Rows<'_>, i: usize, kept: Kept, epsilon: f64) -> Kept
+    requires { (kept.count ≤ i) × HasRow rows.old i }
+    ensures { OnRows (KeptRow (2 * rows.old.w) i epsilon kept result) rows.old rows.new }
 {
-    let magnitude = absolute(coeffs[i]);
+    let magnitude = absolute(rows.coeffs[i]);
     if magnitude < epsilon {
         return Kept {
             dropped: kept.dropped + magnitude,
             ..kept
         };
     }
-    move_row(words, coeffs, size, i, kept.count);
+    move_row(rows, i, kept.count);
     Kept {
         count: kept.count + 1,
         ..kept
     }
 }
 
-fn keep_rows(words: &mut [u64], coeffs: &mut [f64], size: usize, n: usize, epsilon: f64) -> Kept
-    requires { Room size n words.old coeffs.old }
-    ensures { Holds size n result.count (kept_of epsilon (terms_in size n words.old coeffs.old))
-        words.old words.new coeffs.old coeffs.new
-        × ((result.count ≤ n) × (result.dropped ≡ dropped_of epsilon (terms_in size n words.old coeffs.old))) }
+fn keep_rows(rows: &mut Rows<'_>, n: usize, epsilon: f64) -> Kept
+    requires { HasRows rows.old n }
+    ensures { OnRows (Holds (2 * rows.old.w) n result.count (kept_of epsilon (row_terms rows.old n))) rows.old rows.new
+        × ((result.count ≤ n) × (result.dropped ≡ dropped_of epsilon (row_terms rows.old n))) }
 {
     let mut kept = Kept {
         count: 0,
         dropped: 0.0,
     };
     for i in 0..n {
-        kept = keep_row(words, coeffs, size, i, kept, epsilon);
+        kept = keep_row(rows, i, kept, epsilon);
     }
     kept
 }
 
 // Drops each of the first n terms whose size is below epsilon; the rows that this frees are set to zero. The answer has how many terms
 // stay and the sum of the sizes dropped.
-pub fn truncate(words: &mut [u64], coeffs: &mut [f64], w: usize, n: usize, epsilon: f64) -> Kept
-    ensures { Truncated w n epsilon result words.old words.new coeffs.old coeffs.new }
+pub fn truncate(rows: &mut Rows<'_>, n: usize, epsilon: f64) -> Kept
+    ensures { OnRows (Truncated rows.old.w n epsilon result) rows.old rows.new }
 {
-    if n == 0 || row::rows_in(words.len(), coeffs.len(), w) < n {
+    if n == 0 || rows.count() < n {
         return Kept {
             count: n,
             dropped: 0.0,
         };
     }
-    let kept = keep_rows(words, coeffs, 2 * w, n, epsilon);
-    clear_rows(words, coeffs, w, kept.count, n);
+    // The rows as a value of this function's own: through the reference the loops would read its slices again for each row.
+    let mut lent = Rows {
+        words: rows.words,
+        coeffs: rows.coeffs,
+        w: rows.w,
+    };
+    let kept = keep_rows(&mut lent, n, epsilon);
+    lent.clear(kept.count, n);
     kept
 }

@@ -26,7 +26,9 @@ use Rattle.terms.proofs.CountLaws.{rotated_count, channeled_count}
 use Rattle.terms.proofs.DistinctLaws.{conjugated_width, channeled_width}
 use Rattle.terms.proofs.ListLaws.{length_tab}
 use Rattle.terms.proofs.TargetLaws.{kind_of, action_kind}
+use Rattle.rows.specs.declared.Rows.{Rows}
 use Rattle.rows.specs.declared.Step.{Step}
+use Rattle.rows.specs.Lent.{row_terms, SameRows, OnRows}
 use Rattle.rows.specs.Rows.{term_at, terms_in, rows_in, met_in, Stepped, Grown, Holds}
 use Rattle.rows.proofs.HoldLaws.{hold_start, hold_wide, room_less}
 use Rattle.rows.proofs.StepLaws.{rows_room}
@@ -138,3 +140,8 @@ module _ (w n : ℕ) (op : Op) (ws : List ℕ) (cs : List Float) where
   unfolding act on_words
   barrier_did e = subst⁻¹ (λ (o : Op). (0 ≡ met w o here) × Holds (2 * w) (2 * n) n (act w o here) ws ws cs cs) e
       (sym (met_unmet w Barrier here tt), hold_start (2 * w) (2 * n) n ws cs)
+
+-- what was done, of lent rows
+pub lent_did : (n : ℕ) (op : Op) {k : Step} {r r' : Rows} → SameRows r r' → Did r.w n op r.words.now r.coeffs.now k r'.words.now r'.coeffs.now
+    → (k.met ≡ met r.w op (row_terms r n)) × OnRows (Holds (2 * r.w) (2 * n) k.count (act r.w op (row_terms r n))) r r'
+lent_did n op s d = (d.0, record { same = s; left = d.1 })

@@ -9,3 +9,4 @@ pub mod FoldLaws
 pub mod MarkRuns
 pub mod SumLaws
 pub mod AllRunLaws
+pub mod LentMemory

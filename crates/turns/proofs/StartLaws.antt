@@ -140,7 +140,7 @@ line_width w n keys h ok i b x =
 -- the starts
 module _ (w : ℕ) (l : Limits) {out : Progress} {r : ℕ} {ws ws' : List ℕ} {cs cs' : List Float} (have : 2 * l.limit ≤ rows_in w ws cs) where
   pub lines_tell : (keys : List ℕ) (weights : List Float) → let k = length weights in k ≤ l.limit → k ≤ length keys / (2 * w) → Words keys → out ≡ record { count = r; tally = tally r zero64 0 }
-      → Started (leb k (rows_in w ws cs) && (leb k (length keys / (2 * w)) && leb k k)) w k (merged (lines_of w keys weights k)) r ws ws' cs cs'
+      → Started (leb k (rows_in w ws cs) && leb k (length keys / (2 * w))) w k (merged (lines_of w keys weights k)) r ws ws' cs cs'
       → Tells w l (Ok out) ws ws' cs cs' (going (begin (merged (lines_of w keys weights k))))
   lines_tell keys weights fits there ok eo S =
       let k : ℕ = length weights in
@@ -153,8 +153,8 @@ module _ (w : ℕ) (l : Limits) {out : Progress} {r : ℕ} {ws ws' : List ℕ} {
       subst⁻¹ (OnWidth w) (get_d_tab k f i no_term b) (line_width w k keys there ok i b (get_or weights i nan))) in
       let few : length (merged ts) ≤ k = subst (λ (m : ℕ). length (merged ts) ≤ m) long (merged_count ts) in
       let keyed : All (Keyed (2 * w)) (merged ts) = all_imp (OnWidth w) (Keyed (2 * w)) (merged ts) (λ t x. x.long) (merged_width w ts wide) in
-      let yes : (leb k (rows_in w ws cs) && (leb k (length keys / (2 * w)) && leb k k)) ≡ true =
-      λ j. le-leb k (rows_in w ws cs) (omega arith) j && (le-leb k (length keys / (2 * w)) there j && le-leb k k (le_refl k) j) in
+      let yes : (leb k (rows_in w ws cs) && leb k (length keys / (2 * w))) ≡ true =
+      λ j. le-leb k (rows_in w ws cs) (omega arith) j && le-leb k (length keys / (2 * w)) there j in
       let count = started_count w k l 0 zero64 S yes fits have few keyed (merged_distinct ts) in
       started_tells w k l (length (merged ts)) zero64 S yes fits have few keyed (merged_distinct ts)
       (eo ∙ ap (λ (n : ℕ). record { count = r; tally = tally n zero64 0 }) count)

@@ -4,7 +4,9 @@ use Rattle.std.specs.Float.{binary64}
 use Rattle.std.specs.Float.Ieee.{add, mul}
 use Rattle.numbers.specs.Tests.{abs_of}
 use Rattle.words.specs.Keys.{width_of}
+use Rattle.rows.specs.declared.Rows.{Rows}
 use Rattle.rows.specs.Rows.{rows_in, Holds}
+use Rattle.rows.specs.Lent.{OnRows}
 use Rattle.ops.specs.declared.Limits.{Limits}
 use Rattle.ops.specs.declared.Op.{Op}
 use Rattle.ops.specs.declared.Refusal.{Refusal}
@@ -47,3 +49,11 @@ pub record SumReady (qubits : ℕ) (l : Limits) (keys : List ℕ) (weights : Lis
 pub record Folds (w : ℕ) (l : Limits) (r : Result Totals Refusal) (ws₀ ws : List ℕ) (cs₀ cs : List Float) (s : Stage Outcome) : Type 0 where
   pub totals : held_in r ≡ s
   pub rows : Holds (2 * w) (2 * l.limit) 0 [] ws₀ ws cs₀ cs
+
+-- the same of lent rows, of the circuit's width
+pub record RowsSumReady (qubits : ℕ) (l : Limits) (keys : List ℕ) (weights : List Float) (ops : List Op) (r : Rows) : Type 0 where
+  pub width : r.w ≡ width_of qubits
+  pub ready : SumReady qubits l keys weights ops r.words.now r.coeffs.now
+
+abbrev pub RowsFold : Limits → Result Totals Refusal → Stage Outcome → Rows → Rows → Type 0
+RowsFold l a s r = OnRows (λ ws ws' cs cs'. Folds r.w l a ws ws' cs cs' s) r

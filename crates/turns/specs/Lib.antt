@@ -3,3 +3,4 @@ pub mod AllRuns
 pub mod Told
 pub mod Folding
 pub mod Means
+pub mod Lent

@@ -2,16 +2,17 @@
 ghost use Rattle.std.specs.Prelude.{◌≡◌, ◌*◌, ◌^◌, ◌≤◌, ◌<◌, length};
 ghost use Rattle.words.specs.Keys.{width_of};
 ghost use Rattle.rows.specs.Rows.{rows_in};
+ghost use Rattle.rows.specs.Lent.{row_count, OnRows};
 ghost use Rattle.dynamics.specs.Runs.{marked_run};
 ghost use Rattle.dynamics.specs.Outcome.{z_state};
 ghost use Rattle.turns.specs.AllRuns.{all_held, all_asked, AllRan};
 ghost use Rattle.turns.specs.Means.{early_all, asked_by, tallied, all_to, AllReady, Answers, AllTold, AllLeaves};
+ghost use Rattle.turns.specs.Lent.{OnMemory};
 
 use crate::run::run_from;
-use crate::{Finished, Tally, starts};
+use crate::{Finished, Memory, Tally, starts};
 use ops::{Circuit, Limits, Op, Refusal, marks, sizes};
-use rows::clear::clear_rows;
-use rows::row;
+use rows::Rows;
 use words::rows::width;
 
 // The questions before the first run.
@@ -34,16 +35,15 @@ fn run_z(
     ops: &[Op],
     marks: &[bool],
     limits: Limits,
-    words: &mut [u64],
-    coeffs: &mut [f64],
+    rows: &mut Rows<'_>,
     index: &mut [u32],
-    w: usize,
 ) -> Result<Finished, Refusal>
-    requires { (1 ≤ limits.limit) × (w ≤ 4) × (q < 64 * w) × (2 * limits.limit ≤ rows_in w words.old coeffs.old) × (limits.limit ≤ 1048576) × (length ops.now ≤ 4096) }
-    ensures { Answers w result words.old words.new coeffs.old coeffs.new (marked_run w limits marks.now ops.now (z_state w q (tallied before))) }
+    requires { (1 ≤ limits.limit) × (rows.old.w ≤ 4) × (q < 64 * rows.old.w) × (2 * limits.limit ≤ row_count rows.old) × (limits.limit ≤ 1048576) × (length ops.now ≤ 4096) }
+    ensures { let run = marked_run rows.old.w limits marks.now ops.now (z_state rows.old.w q (tallied before)) in
+        OnRows (λ ws ws' cs cs'. Answers rows.old.w result ws ws' cs cs' run) rows.old rows.new }
 {
-    let start = starts::start_z(q, before, limits, words, coeffs, w);
-    run_from(start, ops, marks, limits, words, coeffs, index, w)
+    let start = starts::start_z(q, before, limits, rows);
+    run_from(start, ops, marks, limits, rows, index)
 }
 
 // The runs of all qubits, in order, with one tally.
@@ -51,20 +51,18 @@ fn all_rows(
     circuit: Circuit<'_>,
     marks: &[bool],
     limits: Limits,
-    words: &mut [u64],
-    coeffs: &mut [f64],
+    rows: &mut Rows<'_>,
     index: &mut [u32],
-    w: usize,
     means: &mut [f64],
 ) -> Result<Tally, Refusal>
-    requires { AllReady w circuit.qubits limits circuit.ops.now words.old coeffs.old means.old }
-    ensures { AllTold w circuit.entry.qubits result words.old words.new coeffs.old coeffs.new means.old means.new
-        (all_to w limits marks.now circuit.entry.ops.now circuit.entry.qubits) }
+    requires { AllReady rows.old.w circuit.qubits limits circuit.ops.now rows.old.words.now rows.old.coeffs.now means.old }
+    ensures { let run = all_to rows.old.w limits marks.now circuit.entry.ops.now circuit.entry.qubits in
+        OnRows (λ ws ws' cs cs'. AllTold rows.old.w circuit.entry.qubits result ws ws' cs cs' means.old means.new run) rows.old rows.new }
 {
     let ops = circuit.ops;
     let mut tally = Tally::begun(0);
     for q in 0..circuit.qubits {
-        let end = run_z(q, tally, ops, marks, limits, words, coeffs, index, w)?;
+        let end = run_z(q, tally, ops, marks, limits, rows, index)?;
         means[q] = end.mean;
         let touched = tally.touched + end.tally.touched;
         tally = Tally {
@@ -80,19 +78,17 @@ fn all_marked(
     circuit: Circuit<'_>,
     marks: &[bool],
     limits: Limits,
-    words: &mut [u64],
-    coeffs: &mut [f64],
+    rows: &mut Rows<'_>,
     index: &mut [u32],
-    w: usize,
-    rows: usize,
     means: &mut [f64],
 ) -> Result<Finished, Refusal>
-    requires { AllReady w circuit.qubits limits circuit.ops.now words.old coeffs.old means.old × (rows ≡ rows_in w words.old coeffs.old) }
-    ensures { AllLeaves w circuit.entry.qubits result words.old words.new coeffs.old coeffs.new means.old means.new index.old index.new
-        (all_to w limits marks.now circuit.entry.ops.now circuit.entry.qubits) }
+    requires { AllReady rows.old.w circuit.qubits limits circuit.ops.now rows.old.words.now rows.old.coeffs.now means.old }
+    ensures { let run = all_to rows.old.w limits marks.now circuit.entry.ops.now circuit.entry.qubits in
+        OnRows (λ ws ws' cs cs'. AllLeaves rows.old.w circuit.entry.qubits result ws ws' cs cs' means.old means.new index.old index.new run) rows.old rows.new }
 {
-    let end = all_rows(circuit, marks, limits, words, coeffs, index, w, means);
-    clear_rows(words, coeffs, w, 0, rows);
+    let count = rows.count();
+    let end = all_rows(circuit, marks, limits, rows, index, means);
+    rows.clear(0, count);
     branches::chains::clear(index);
     match end {
         Ok(tally) => Ok(Finished {
@@ -113,21 +109,21 @@ fn all_marked(
 pub fn run_spd_lowered(
     circuit: Circuit<'_>,
     limits: Limits,
-    words: &mut [u64],
-    coeffs: &mut [f64],
-    index: &mut [u32],
+    memory: &mut Memory<'_>,
     means: &mut [f64],
 ) -> Result<Finished, Refusal>
-    ensures { AllRan circuit.entry.qubits (all_held circuit.entry.qubits limits circuit.entry.ops.now (rows_in (width_of circuit.entry.qubits) words.old coeffs.old) (length means.old))
-        (all_asked circuit.entry.qubits limits circuit.entry.ops.now (rows_in (width_of circuit.entry.qubits) words.old coeffs.old) (length means.old))
-        result words.old words.new coeffs.old coeffs.new means.old means.new index.old index.new }
+    ensures { let rows = rows_in (width_of circuit.entry.qubits) memory.old.words.now memory.old.coeffs.now in
+        let held = all_held circuit.entry.qubits limits circuit.entry.ops.now rows (length means.old) in
+        let run = all_asked circuit.entry.qubits limits circuit.entry.ops.now rows (length means.old) in
+        OnMemory (λ ws ws' cs cs' ix ix'. AllRan circuit.entry.qubits held run result ws ws' cs cs' means.old means.new ix ix') memory.old memory.new }
 {
-    let w = width(circuit.qubits);
-    let rows = row::rows_in(words.len(), coeffs.len(), w);
-    asked(circuit, limits, rows, means.len())?;
+    let mut rows = Rows {
+        words: memory.words,
+        coeffs: memory.coeffs,
+        w: width(circuit.qubits),
+    };
+    asked(circuit, limits, rows.count(), means.len())?;
     let mut marks = [false; 4096];
     marks::full_marks(circuit.ops, &mut marks);
-    all_marked(
-        circuit, &marks, limits, words, coeffs, index, w, rows, means,
-    )
+    all_marked(circuit, &marks, limits, &mut rows, memory.index, means)
 }

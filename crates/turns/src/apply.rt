@@ -4,7 +4,8 @@ ghost use Rattle.numbers.specs.Constants.{sine_t, cosine_t};
 ghost use Rattle.terms.specs.Met.{kind_targets};
 ghost use Rattle.terms.specs.Term.{Distinct};
 ghost use Rattle.terms.specs.Channel.{action_of};
-ghost use Rattle.rows.specs.Rows.{terms_in, rows_in, met_in, Grown, Holds};
+ghost use Rattle.rows.specs.Rows.{met_in, Grown, Holds};
+ghost use Rattle.rows.specs.Lent.{row_terms, row_count, OnRows};
 ghost use Rattle.dynamics.specs.Acts.{noisy, act, met};
 
 use branches::channels::apply_backward_channel;
@@ -12,27 +13,24 @@ use branches::rotation::{Rotation, branch_rotation};
 use ops::Op;
 use ops::marks::targets_of;
 use ops::targets::has_targets;
-use rows::Step;
+use rows::{Rows, Step};
 use sums::gates::conjugate_all_backward_phased;
 use terms::{Axis, NoiseChannel as Noise};
 
 // A channel, at one target or two.
 fn apply_channel(
-    words: &mut [u64],
-    coeffs: &mut [f64],
+    rows: &mut Rows<'_>,
     index: &mut [u32],
-    w: usize,
     n: usize,
     channel: Noise,
     a: usize,
     b: usize,
 ) -> Step
-    ensures { ((result.met ≡ met_in w (kind_targets (action_of channel).kind a b) n words.old coeffs.old)
-        × Grown w n (noisy w a b channel (terms_in (2 * w) n words.old coeffs.old)) result.count
-        words.old words.new coeffs.old coeffs.new) × (length index.new ≡ length index.old) }
+    ensures met { result.met ≡ met_in rows.old.w (kind_targets (action_of channel).kind a b) n rows.old.words.now rows.old.coeffs.now }
+    ensures terms { OnRows (Grown rows.old.w n (noisy rows.old.w a b channel (row_terms rows.old n)) result.count) rows.old rows.new }
 {
     let action = terms::channels::channel_action(channel);
-    apply_backward_channel(words, coeffs, index, w, n, action, a, b)
+    apply_backward_channel(rows, index, n, action, a, b)
 }
 
 // t's sine and cosine, by their bits.
@@ -60,58 +58,41 @@ fn about_z(q: usize, sin: f64, cos: f64) -> Rotation
 }
 
 // The first n terms through one op. The answer is the number of terms, and how many the op met.
-pub(crate) fn apply_backward(
-    op: Op,
-    words: &mut [u64],
-    coeffs: &mut [f64],
-    index: &mut [u32],
-    w: usize,
-    n: usize,
-) -> Step
-    requires { (2 * n ≤ rows_in w words.old coeffs.old) × Distinct (terms_in (2 * w) n words.old coeffs.old) }
-    ensures { (result.met ≡ met w op (terms_in (2 * w) n words.old coeffs.old))
-        × Holds (2 * w) (2 * n) result.count (act w op (terms_in (2 * w) n words.old coeffs.old))
-        words.old words.new coeffs.old coeffs.new }
+pub(crate) fn apply_backward(op: Op, rows: &mut Rows<'_>, index: &mut [u32], n: usize) -> Step
+    requires { (2 * n ≤ row_count rows.old) × Distinct (row_terms rows.old n) }
+    ensures { (result.met ≡ met rows.old.w op (row_terms rows.old n))
+        × OnRows (Holds (2 * rows.old.w) (2 * n) result.count (act rows.old.w op (row_terms rows.old n))) rows.old rows.new }
 {
-    if !has_targets(w, targets_of(op)) {
+    rows.fits64();
+    if !has_targets(rows.w, targets_of(op)) {
         return Step { count: n, met: 0 };
     }
     match op {
         Op::Native(g, a, b) => {
-            let met = conjugate_all_backward_phased(words, coeffs, w, n, g, a, b);
+            let met = conjugate_all_backward_phased(rows, n, g, a, b);
             Step { count: n, met }
         }
-        Op::T(q) => branch_rotation(words, coeffs, index, w, n, about_z(q, sine_t(), cosine_t())),
+        Op::T(q) => branch_rotation(rows, index, n, about_z(q, sine_t(), cosine_t())),
         Op::Tdg(q) => {
             let rotation = about_z(q, -sine_t(), cosine_t());
-            branch_rotation(words, coeffs, index, w, n, rotation)
+            branch_rotation(rows, index, n, rotation)
         }
-        Op::Rz(q, s, c) | Op::P(q, s, c) => {
-            branch_rotation(words, coeffs, index, w, n, about_z(q, s, c))
-        }
+        Op::Rz(q, s, c) | Op::P(q, s, c) => { branch_rotation(rows, index, n, about_z(q, s, c)) }
         Op::Rzz(a, b, sin, cos) => {
             let axis = Axis::Zz(a, b);
-            branch_rotation(words, coeffs, index, w, n, Rotation { axis, sin, cos })
+            branch_rotation(rows, index, n, Rotation { axis, sin, cos })
         }
-        Op::Pauli(q, x, y, z) => {
-            apply_channel(words, coeffs, index, w, n, Noise::Pauli(x, y, z), q, 0)
-        }
-        Op::Depol(q, p) => {
-            apply_channel(words, coeffs, index, w, n, Noise::Depolarizing(p), q, 0)
-        }
-        Op::Damp(q, g) => {
-            apply_channel(words, coeffs, index, w, n, Noise::AmplitudeDamping(g), q, 0)
-        }
-        Op::Phase(q, g) => {
-            apply_channel(words, coeffs, index, w, n, Noise::PhaseDamping(g), q, 0)
-        }
+        Op::Pauli(q, x, y, z) => { apply_channel(rows, index, n, Noise::Pauli(x, y, z), q, 0) }
+        Op::Depol(q, p) => { apply_channel(rows, index, n, Noise::Depolarizing(p), q, 0) }
+        Op::Damp(q, g) => { apply_channel(rows, index, n, Noise::AmplitudeDamping(g), q, 0) }
+        Op::Phase(q, g) => { apply_channel(rows, index, n, Noise::PhaseDamping(g), q, 0) }
         Op::Thermal(q, d, p, e) => {
             let channel = Noise::ThermalRelaxation(d, p, e);
-            apply_channel(words, coeffs, index, w, n, channel, q, 0)
+            apply_channel(rows, index, n, channel, q, 0)
         }
         Op::Depol2(a, b, p) => {
             let channel = Noise::TwoQubitDepolarizing(p);
-            apply_channel(words, coeffs, index, w, n, channel, a, b)
+            apply_channel(rows, index, n, channel, a, b)
         }
         Op::Barrier => Step { count: n, met: 0 },
     }

@@ -1,17 +1,16 @@
 // The fold: each line of a sum alone at weight 1, and the totals.
 ghost use Rattle.std.specs.Prelude.{◌≡◌, ◌+◌, ◌^◌, ◌<◌};
-ghost use Rattle.words.specs.Keys.{width_of};
 ghost use Rattle.dynamics.specs.Turn.{going};
 ghost use Rattle.dynamics.specs.Outcome.{nothing_yet, fold_lines, ask_totals, folded};
 ghost use Rattle.ops.specs.LineTable.{task_of};
 ghost use Rattle.turns.specs.SumRuns.{told_by, results_of};
-ghost use Rattle.turns.specs.Told.{Ends};
-ghost use Rattle.turns.specs.Folding.{held, added, SumReady, Folds};
+ghost use Rattle.turns.specs.Folding.{held, added, RowsSumReady, RowsFold};
+ghost use Rattle.turns.specs.Lent.{RowsEnd};
 
 use crate::run::run_from;
 use crate::{Finished, Tally, starts};
 use ops::{Circuit, Limits, Observable, Refusal};
-use words::rows::width;
+use rows::Rows;
 
 // The totals of the lines so far.
 #[derive(Clone, Copy)]
@@ -70,19 +69,17 @@ fn fold_lines(
     observable: Observable<'_>,
     marks: &[bool],
     limits: Limits,
-    words: &mut [u64],
-    coeffs: &mut [f64],
+    rows: &mut Rows<'_>,
     index: &mut [u32],
 ) -> Result<Totals, Refusal>
-    requires { SumReady circuit.qubits limits observable.keys.now observable.weights.now circuit.ops.now words.old coeffs.old }
+    requires { RowsSumReady circuit.qubits limits observable.keys.now observable.weights.now circuit.ops.now rows.old }
     ensures { let t = task_of circuit.entry.qubits limits observable.entry.keys.now observable.entry.weights.now circuit.entry.ops.now in
-        Folds (width_of circuit.entry.qubits) limits result words.old words.new coeffs.old coeffs.new (fold_lines t marks.now t.lines nothing_yet) }
+        RowsFold limits result (fold_lines t marks.now t.lines nothing_yet) rows.old rows.new }
 {
-    let w = width(circuit.qubits);
     let mut totals = Totals::none();
     for (i, weight) in observable.weights.iter().enumerate() {
-        let start = starts::start_alone(observable.keys, i, limits, words, coeffs, w);
-        let end = run_from(start, circuit.ops, marks, limits, words, coeffs, index, w)?;
+        let start = starts::start_alone(observable.keys, i, limits, rows);
+        let end = run_from(start, circuit.ops, marks, limits, rows, index)?;
         totals = totals.with_line(*weight, end);
     }
     Ok(totals)
@@ -94,13 +91,13 @@ pub(crate) fn fold(
     observable: Observable<'_>,
     marks: &[bool],
     limits: Limits,
-    words: &mut [u64],
-    coeffs: &mut [f64],
+    rows: &mut Rows<'_>,
     index: &mut [u32],
 ) -> Result<Finished, Refusal>
-    requires { SumReady circuit.qubits limits observable.keys.now observable.weights.now circuit.ops.now words.old coeffs.old }
-    ensures { Ends (width_of circuit.entry.qubits) limits result words.old words.new coeffs.old coeffs.new
-        (folded (task_of circuit.entry.qubits limits observable.entry.keys.now observable.entry.weights.now circuit.entry.ops.now) marks.now) }
+    requires { RowsSumReady circuit.qubits limits observable.keys.now observable.weights.now circuit.ops.now rows.old }
+    ensures { RowsEnd limits result
+        (folded (task_of circuit.entry.qubits limits observable.entry.keys.now observable.entry.weights.now circuit.entry.ops.now) marks.now)
+        rows.old rows.new }
 {
-    fold_lines(circuit, observable, marks, limits, words, coeffs, index)?.finished()
+    fold_lines(circuit, observable, marks, limits, rows, index)?.finished()
 }

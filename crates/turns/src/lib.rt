@@ -1,4 +1,6 @@
 // One turn of a run, a run of a sum under any marks with its fold, and the runs of all qubits.
+// What a run is given stays apart, as the document has it: circuit, lines, marks and limits. `all` has no lines, and a run from terms in the rows needs no more
+// than ops, marks and limits.
 #![tactic(auto)]
 
 ghost use Rattle.std.specs.Prelude.{◌≡◌};
@@ -34,6 +36,16 @@ impl Tally {
             touched: 0,
         }
     }
+}
+
+// The memory that a caller lends to a run: for the rows their words and numbers, and for the index. A run takes it apart: its rows have the width of its
+// circuit, and the index is memory until a step makes one in it. The mean places are no field: `all` alone writes them, and each other run would have to say that
+// it does not.
+#[derive(Drop)]
+pub struct Memory<'a> {
+    pub words: &'a mut [u64],
+    pub coeffs: &'a mut [f64],
+    pub index: &'a mut [u32],
 }
 
 // How far a run has come: the number of terms in the rows, and the tally.

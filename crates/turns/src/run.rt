@@ -1,10 +1,11 @@
 // Runs over the ops that marks set, from the last to the first.
 ghost use Rattle.std.specs.Prelude.{◌≡◌, ◌*◌, ◌≤◌, length};
 ghost use Rattle.dynamics.specs.Runs.{runs, marked_run};
-ghost use Rattle.turns.specs.Told.{state_in, Fresh, Tells, Ends};
+ghost use Rattle.turns.specs.Lent.{state_of, RowsFresh, RowsTell, RowsEnd};
 
 use crate::{Finished, Progress, finish, turn};
 use ops::{Limits, Op, Refusal};
+use rows::Rows;
 
 // The turns of the ops that the marks set.
 fn run_rows(
@@ -12,18 +13,16 @@ fn run_rows(
     ops: &[Op],
     marks: &[bool],
     limits: Limits,
-    words: &mut [u64],
-    coeffs: &mut [f64],
+    rows: &mut Rows<'_>,
     index: &mut [u32],
-    w: usize,
 ) -> Result<Progress, Refusal>
-    requires { Fresh w limits start ops.now words.old coeffs.old }
-    ensures { Tells w limits result words.old words.new coeffs.old coeffs.new (runs w limits marks.now ops.now (state_in w start words.old coeffs.old)) }
+    requires { RowsFresh limits start ops.now rows.old }
+    ensures { RowsTell limits result (runs rows.old.w limits marks.now ops.now (state_of start rows.old)) rows.old rows.new }
 {
     let mut at = start;
     for i in (0..ops.len().min(marks.len())).rev() {
         if marks[i] {
-            at = turn::turn(ops[i], limits, words, coeffs, index, w, at)?;
+            at = turn::turn(ops[i], limits, rows, index, at)?;
         }
     }
     Ok(at)
@@ -35,14 +34,12 @@ pub(crate) fn run_from(
     ops: &[Op],
     marks: &[bool],
     limits: Limits,
-    words: &mut [u64],
-    coeffs: &mut [f64],
+    rows: &mut Rows<'_>,
     index: &mut [u32],
-    w: usize,
 ) -> Result<Finished, Refusal>
-    requires { Fresh w limits start ops.now words.old coeffs.old }
-    ensures { Ends w limits result words.old words.new coeffs.old coeffs.new (marked_run w limits marks.now ops.now (state_in w start words.old coeffs.old)) }
+    requires { RowsFresh limits start ops.now rows.old }
+    ensures { RowsEnd limits result (marked_run rows.old.w limits marks.now ops.now (state_of start rows.old)) rows.old rows.new }
 {
-    let last = run_rows(start, ops, marks, limits, words, coeffs, index, w)?;
-    finish::finish(limits, words, coeffs, w, last)
+    let last = run_rows(start, ops, marks, limits, rows, index)?;
+    finish::finish(limits, rows, last)
 }

@@ -1,17 +1,15 @@
 // A run of the sum of the lines, under any marks: the sum, or the fold.
 ghost use Rattle.std.specs.Prelude.{◌≡◌};
-ghost use Rattle.words.specs.Keys.{width_of};
 ghost use Rattle.ops.specs.LineTable.{task_of};
 ghost use Rattle.dynamics.specs.Outcome.{sum_run};
 ghost use Rattle.turns.specs.SumRuns.{sum_fits, SumRan};
-ghost use Rattle.turns.specs.Told.{Ends};
-ghost use Rattle.turns.specs.Folding.{meets_nine, SumReady};
+ghost use Rattle.turns.specs.Folding.{meets_nine, RowsSumReady};
+ghost use Rattle.turns.specs.Lent.{RowsEnd, OnMemory};
 
 use crate::run::run_from;
-use crate::{Finished, fold, starts};
+use crate::{Finished, Memory, fold, starts};
 use ops::{Circuit, Limits, Observable, Refusal, sizes};
-use rows::clear::clear_rows;
-use rows::row;
+use rows::Rows;
 use words::rows::width;
 
 // Whether a sum of so many lines is folded: it met 9.
@@ -27,20 +25,18 @@ fn sum_rows(
     observable: Observable<'_>,
     marks: &[bool],
     limits: Limits,
-    words: &mut [u64],
-    coeffs: &mut [f64],
+    rows: &mut Rows<'_>,
     index: &mut [u32],
 ) -> Result<Finished, Refusal>
-    requires { SumReady circuit.qubits limits observable.keys.now observable.weights.now circuit.ops.now words.old coeffs.old }
-    ensures { Ends (width_of circuit.entry.qubits) limits result words.old words.new coeffs.old coeffs.new
-        (sum_run (task_of circuit.entry.qubits limits observable.entry.keys.now observable.entry.weights.now circuit.entry.ops.now) marks.now) }
+    requires { RowsSumReady circuit.qubits limits observable.keys.now observable.weights.now circuit.ops.now rows.old }
+    ensures { RowsEnd limits result
+        (sum_run (task_of circuit.entry.qubits limits observable.entry.keys.now observable.entry.weights.now circuit.entry.ops.now) marks.now)
+        rows.old rows.new }
 {
-    let w = width(circuit.qubits);
-    let weights = observable.weights;
-    let start = starts::start_lines(observable.keys, weights, limits, words, coeffs, index, w);
-    let end = run_from(start, circuit.ops, marks, limits, words, coeffs, index, w);
-    if meets_nine(weights.len(), end) {
-        return fold::fold(circuit, observable, marks, limits, words, coeffs, index);
+    let start = starts::start_lines(observable, limits, rows, index);
+    let end = run_from(start, circuit.ops, marks, limits, rows, index);
+    if meets_nine(observable.weights.len(), end) {
+        return fold::fold(circuit, observable, marks, limits, rows, index);
     }
     end
 }
@@ -62,24 +58,27 @@ pub fn run_sum(
     observable: Observable<'_>,
     marks: &[bool],
     limits: Limits,
-    words: &mut [u64],
-    coeffs: &mut [f64],
-    index: &mut [u32],
+    memory: &mut Memory<'_>,
 ) -> Result<Finished, Refusal>
-    ensures { SumRan circuit.entry.qubits limits observable.entry.keys.now observable.entry.weights.now circuit.entry.ops.now marks.now result
-        words.old words.new coeffs.old coeffs.new index.old index.new }
+    ensures { OnMemory
+        (SumRan circuit.entry.qubits limits observable.entry.keys.now observable.entry.weights.now circuit.entry.ops.now marks.now result)
+        memory.old memory.new }
 {
-    let w = width(circuit.qubits);
     if !sum_fits(circuit, observable, limits) {
         return Err(Refusal::Counts);
     }
-    let rows = row::rows_in(words.len(), coeffs.len(), w);
-    if rows / 2 < limits.limit {
+    let mut rows = Rows {
+        words: memory.words,
+        coeffs: memory.coeffs,
+        w: width(circuit.qubits),
+    };
+    let count = rows.count();
+    if count / 2 < limits.limit {
         return Err(Refusal::Room);
     }
-    let end = sum_rows(circuit, observable, marks, limits, words, coeffs, index);
+    let end = sum_rows(circuit, observable, marks, limits, &mut rows, memory.index);
     let left = end.map_or(0, |finished| finished.count);
-    clear_rows(words, coeffs, w, left, rows);
-    branches::chains::clear(index);
+    rows.clear(left, count);
+    branches::chains::clear(memory.index);
     end
 }

@@ -1,34 +1,31 @@
 // One turn of a run: an op, and what follows it.
 ghost use Rattle.std.specs.Prelude.{◌≡◌, ◌&&◌, ◌+◌, ◌*◌, ◌^◌, ◌≤◌, ◌<◌, ltb, Result};
 ghost use Rattle.terms.specs.Term.{Distinct};
-ghost use Rattle.rows.specs.Rows.{terms_in, rows_in};
+ghost use Rattle.rows.specs.Lent.{row_terms, row_count};
 ghost use Rattle.dynamics.specs.Turn.{drop_small, settle};
 ghost use Rattle.dynamics.specs.Runs.{turn};
-ghost use Rattle.turns.specs.Told.{state_in, fine_in, within_of, CheckedIn, AfterDrop, Ready, Tells};
+ghost use Rattle.turns.specs.Told.{fine_in, within_of, CheckedIn};
+ghost use Rattle.turns.specs.Lent.{state_of, RowsDropped, RowsReady, RowsTell};
 
 use crate::peaks::note_count;
 use crate::{Progress, Tally, apply};
 use ops::{Limits, Op, Refusal};
+use rows::Rows;
 
 // Question 8 of the terms and the discarded weight.
-pub(crate) fn fine(coeffs: &[f64], at: Progress) -> bool
-    ensures { result ≡ fine_in at coeffs.now }
+pub(crate) fn fine(rows: &Rows<'_>, at: Progress) -> bool
+    ensures { result ≡ fine_in at rows.now.coeffs.now }
 {
-    sums::mean::all_finite(coeffs, at.count) && numbers::tests::is_finite(at.tally.discarded)
+    sums::mean::all_finite(rows.coeffs, at.count) && numbers::tests::is_finite(at.tally.discarded)
 }
 
 // The drop of small terms; their sum is added to the discarded weight.
-pub(crate) fn drop_small(
-    words: &mut [u64],
-    coeffs: &mut [f64],
-    w: usize,
-    at: Progress,
-    epsilon: f64,
-) -> Progress
-    requires { at.count ≤ rows_in w words.old coeffs.old }
-    ensures { AfterDrop w at.count result words.old words.new coeffs.old coeffs.new (drop_small epsilon (state_in w at words.old coeffs.old)) }
+pub(crate) fn drop_small(rows: &mut Rows<'_>, at: Progress, epsilon: f64) -> Progress
+    requires { at.count ≤ row_count rows.old }
+    ensures { RowsDropped at.count result (drop_small epsilon (state_of at rows.old)) rows.old rows.new }
 {
-    let kept = sums::truncate::truncate(words, coeffs, w, at.count, epsilon);
+    rows.fits64();
+    let kept = sums::truncate::truncate(rows, at.count, epsilon);
     let discarded = at.tally.discarded + kept.dropped;
     Progress {
         count: kept.count,
@@ -58,50 +55,43 @@ fn within(limits: Limits, at: Progress) -> Result<Progress, Refusal>
 }
 
 // Questions 8 and 9, and the peak.
-fn checked(limits: Limits, coeffs: &[f64], at: Progress) -> Result<Progress, Refusal>
-    ensures { CheckedIn limits at coeffs.now result }
+fn checked(limits: Limits, rows: &Rows<'_>, at: Progress) -> Result<Progress, Refusal>
+    ensures { CheckedIn limits at rows.now.coeffs.now result }
 {
-    if !fine(coeffs, at) {
+    if !fine(rows, at) {
         return Err(Refusal::NotFinite);
     }
     within(limits, at)
 }
 
 // What follows an op. Where nothing is dropped, question 8 has been answered.
-fn settle(
-    limits: Limits,
-    words: &mut [u64],
-    coeffs: &mut [f64],
-    w: usize,
-    at: Progress,
-) -> Result<Progress, Refusal>
-    requires { (at.count ≤ 2 * limits.limit) × (2 * limits.limit ≤ rows_in w words.old coeffs.old) × Distinct (terms_in (2 * w) at.count words.old coeffs.old) }
-    ensures { Tells w limits result words.old words.new coeffs.old coeffs.new (settle limits (state_in w at words.old coeffs.old)) }
+fn settle(limits: Limits, rows: &mut Rows<'_>, at: Progress) -> Result<Progress, Refusal>
+    requires { (at.count ≤ 2 * limits.limit) × (2 * limits.limit ≤ row_count rows.old) × Distinct (row_terms rows.old at.count) }
+    ensures { RowsTell limits result (settle limits (state_of at rows.old)) rows.old rows.new }
 {
-    if !fine(coeffs, at) {
+    if !fine(rows, at) {
         return Err(Refusal::NotFinite);
     }
     if !is_crowded(limits, at.count) {
         return within(limits, at);
     }
-    let left = drop_small(words, coeffs, w, at, limits.epsilon);
-    checked(limits, coeffs, left)
+    let left = drop_small(rows, at, limits.epsilon);
+    checked(limits, rows, left)
 }
 
 // One op, and what follows it.
 pub(crate) fn turn(
     op: Op,
     limits: Limits,
-    words: &mut [u64],
-    coeffs: &mut [f64],
+    rows: &mut Rows<'_>,
     index: &mut [u32],
-    w: usize,
     at: Progress,
 ) -> Result<Progress, Refusal>
-    requires { Ready w limits at.count words.old coeffs.old × (at.tally.touched + limits.limit < 2 ^ 64) }
-    ensures { Tells w limits result words.old words.new coeffs.old coeffs.new (turn w limits op (state_in w at words.old coeffs.old)) }
+    requires { RowsReady limits at.count rows.old × (at.tally.touched + limits.limit < 2 ^ 64) }
+    ensures { RowsTell limits result (turn rows.old.w limits op (state_of at rows.old)) rows.old rows.new }
 {
-    let step = apply::apply_backward(op, words, coeffs, index, w, at.count);
+    rows.fits64();
+    let step = apply::apply_backward(op, rows, index, at.count);
     let touched = at.tally.touched + step.met;
     let met = Progress {
         count: step.count,
@@ -110,5 +100,5 @@ pub(crate) fn turn(
             ..at.tally
         },
     };
-    settle(limits, words, coeffs, w, met)
+    settle(limits, rows, met)
 }

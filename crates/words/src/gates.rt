@@ -2,7 +2,7 @@
 // The gates stand in the order of section III of Aaronson and Gottesman, "Improved simulation of stabilizer circuits": controlled-NOT, Hadamard, phase;
 // the other gates after (2026-05). `.ci/order` keeps this order, here and in the definitions.
 // A bit is a number, 0 or 1, and a flip is a mask made of it: on a bool the compiler makes branches, which the processor would often
-// predict wrongly. Each gate touches just the bits that it needs.
+// predict wrongly. Each gate touches just the bits that it needs. A gate and its targets are three parameters, as `Op::Native` has them.
 ghost use Rattle.std.specs.Prelude.{◌≡◌, Bool, cond, ◌+◌, ◌*◌, ◌%◌};
 ghost use Rattle.words.specs.Keys.{◌⊕◌, bit_of, bit_at, z_at};
 ghost use Rattle.words.specs.Gates.{has_two_targets, conj_phase, has_phase, bits_at, flip_when, conj_key};
@@ -131,7 +131,8 @@ pub fn has_phase(gate: Gate) -> bool
     !matches!(gate, Gate::Cx | Gate::Swap | Gate::Id)
 }
 
-// The two at once: the factor is taken from the key as it was.
+// The two at once: the factor is taken from the key as it was. Inlined, so that a loop over rows through one gate has no choice among gates.
+#[inline(always)]
 pub fn conjugate_key(key: &mut [u64], w: usize, gate: Gate, a: usize, b: usize) -> u8
     ensures { (key.new ≡ conj_key gate w a b key.old) × (result ≡ conj_phase gate (bits_at w a b key.old)) }
 {

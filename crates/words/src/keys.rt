@@ -1,4 +1,5 @@
-// The bits of keys. A key is W x-words and then W z-words.
+// The bits of keys. A key is W x-words and then W z-words. It is a part of lent memory, a slice, so its width is a parameter of what reads it, and a bit goes by
+// the word from which it is counted.
 ghost use Rattle.std.specs.Prelude.{◌≡◌, Bool, cond, ◌+◌, ◌*◌, ◌/◌, ◌<◌, ◌≤◌, MatchOption};
 ghost use Rattle.words.specs.Keys.{bit_at, flip_at, set_at};
 ghost use Rattle.words.specs.Gates.{flip_when};

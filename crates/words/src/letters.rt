@@ -11,7 +11,8 @@ fn whole_words(key: &[u64], w: usize) -> usize
 }
 
 // The parity of the Y letters: 1 where they are odd in number, else 0. An exclusive or has an odd number of digits 1 where its parts together do.
-// The parity is a number, as the bits of a gate are: a branch on a bool would often be predicted wrongly.
+// The parity is a number, as the bits of a gate are: a branch on a bool would often be predicted wrongly (docs/DECISIONS.md has what
+// branches cost).
 #[tactic(auto, using(crate::proofs::OnesLaws::parity_start, crate::proofs::OnesLaws::parity_turn, crate::proofs::OnesLaws::ys_whole))]
 pub fn y_parity(key: &[u64], w: usize) -> usize
     ensures { result ≡ ys_of w key.now % 2 }

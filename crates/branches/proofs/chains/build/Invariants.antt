@@ -1,7 +1,12 @@
--- An index of the rows before row i.
-use Rattle.std.proofs.Common.{◌≡◌, length, Some}
-use Rattle.branches.specs.Chains.{Indexed}
+-- An index of the rows before row i, in the memory that it began in.
+use Rattle.std.proofs.Common.{ℕ, List}
+use Rattle.std.specs.Borrow.{MutBor}
+use Rattle.branches.specs.Index.{Indexes, Spares, InMemory}
 use Rattle.branches.proofs.chains.build.Given as goal
 
 abbrev pub invariant-loop-i : goal.invariant-loop-i
-invariant-loop-i l = (length l.index ≡ length l.fn.index) × Indexed l.sought l.w l.words l.i (Some l.buckets) l.index
+invariant-loop-i l = record {
+  memory : (m : MutBor (List ℕ)) → InMemory m l.initial.index → InMemory m l.index;
+  room : Spares l.cap l.index;
+  indexed : Indexes l.sought l.rows l.i l.index;
+}

@@ -1,12 +1,17 @@
-use Prim.Native.Nat.{◌+◌, ◌*◌, ◌≤◌}
-use mathlib.Core.Path.{◌≡◌}
-use lib.ListN.{length}
+-- The branches of the rows before row i are there, and the index is one of all the rows.
+use Rattle.std.proofs.Common.{◌+◌, ◌*◌, ◌≤◌}
 use Rattle.terms.specs.Channel.{branches_to}
-use Rattle.rows.specs.Rows.{terms_in, Holds}
+use Rattle.rows.specs.Rows.{Holds}
+use Rattle.rows.specs.Lent.{row_terms, OnRows}
 use Rattle.branches.specs.declared.Sought.TheVariants.{Identity}
-use Rattle.branches.specs.Chains.{Indexed}
+use Rattle.branches.specs.Index.{Indexes, SameIf}
 use Rattle.branches.proofs.channels.add_identity_branches.Given as goal
 
 abbrev pub invariant-loop-i : goal.invariant-loop-i
-invariant-loop-i l = (l.i ≤ l.n) × (l.n ≤ l.m) × (l.m ≤ l.n + l.i) × Holds (2 * l.w) l.m l.m (branches_to l.w l.q l.f l.i (terms_in (2 * l.w) l.n l.fn.words l.fn.coeffs)) l.fn.words l.words l.fn.coeffs l.coeffs
-    × (length l.index ≡ length l.fn.index) × Indexed (Identity l.q) l.w l.words l.m l.buckets l.index
+invariant-loop-i l = let s = l.fn.rows in
+    record {
+      count : (l.n ≤ l.m) × (l.m ≤ l.n + l.i);
+      terms : OnRows (Holds (2 * s.w) l.m l.m (branches_to s.w l.q l.f l.i (row_terms s l.n))) s l.rows;
+      same : SameIf l.fn.index l.index;
+      index : Indexes (Identity l.q) l.rows l.m l.index;
+    }

@@ -7,5 +7,9 @@ use Rattle.branches.proofs.channels.scale_letters.Goals as goal
 pub returns : goal.returns
 returns c =
     let a = c.args in
-    held_by (2 * a.w) a.n a.words.now a.coeffs.now (by_letter a.w a.q a.lambda)
-    (c.scale_rows.ensures (letter_factor a.w a.q a.lambda) (λ i r h e. search rules))
+    let s = a.rows.now in
+    let e = c.scale_rows.ensures in
+    record {
+      same = e.same;
+      left = held_by (2 * s.w) a.n s.words.now s.coeffs.now (by_letter s.w a.q a.lambda) (e.scaled (letter_factor s.w a.q a.lambda) (λ i r h e. search rules));
+    }

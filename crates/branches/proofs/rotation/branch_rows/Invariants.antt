@@ -1,10 +1,14 @@
-use Prim.Native.Nat.{◌+◌, ◌*◌, ◌≤◌}
-use Rattle.terms.specs.Rotation.{met_by, partner_by}
-use Rattle.terms.specs.Branch.{branch_to}
-use Rattle.rows.specs.Rows.{terms_in, Holds}
-use Rattle.branches.specs.Pairs.{Tabled}
+-- The rows before i are rotated, and the table says the partners of the others.
+use Rattle.std.proofs.Common.{◌+◌, ◌*◌, ◌≤◌}
+use Rattle.rows.specs.Rows.{Holds}
+use Rattle.rows.specs.Lent.{row_terms, OnRows}
+use Rattle.branches.specs.Rotated.{rows_by}
+use Rattle.branches.specs.Index.{Tables}
 use Rattle.branches.proofs.rotation.branch_rows.Given as goal
 
 abbrev pub invariant-loop-i : goal.invariant-loop-i
-invariant-loop-i l = (l.i ≤ l.n) × (l.n ≤ l.m) × (l.m ≤ l.n + l.i) × Holds (2 * l.w) l.m l.m (branch_to l.w (met_by l.rotation.axis) (partner_by l.w l.rotation.axis) l.rotation.sin l.rotation.cos l.n l.i (terms_in (2 * l.w) l.n l.fn.words l.fn.coeffs)) l.fn.words l.words l.fn.coeffs l.coeffs
-    × Tabled l.rotation.axis l.w l.words l.n l.i l.buckets l.index
+invariant-loop-i l =
+    let s = l.fn.rows in
+    (l.i ≤ l.n) × (l.n ≤ l.m) × (l.m ≤ l.n + l.i)
+    × OnRows (Holds (2 * s.w) l.m l.m (rows_by s.w l.rotation l.n l.i (row_terms s l.n))) s l.rows
+    × Tables l.rotation.axis l.rows l.n l.i l.table

@@ -1,16 +1,17 @@
--- The rows before i are times the factors of their keys.
+-- The rows before i are times the factors of their keys, and the words are as they were.
 use Rattle.std.proofs.Common.{◌≡◌, ℕ, ◌*◌, ◌<◌, ◌≤◌, Option, Float}
 use Rattle.std.specs.Fn.{FnReturnsAt}
 use Rattle.words.specs.Keys.{Key}
-use Rattle.words.specs.Rows.{key_at}
 use Rattle.terms.specs.Lists.{map_to}
-use Rattle.rows.specs.Rows.{terms_in, Room, Holds}
+use Rattle.rows.specs.Rows.{Holds}
+use Rattle.rows.specs.Lent.{row_key, row_terms, SameRows}
 use Rattle.branches.specs.Scaling.{scaled_at}
 use Rattle.branches.proofs.scaling.scale_rows.Given as goal
 
 abbrev pub invariant-loop-i : goal.invariant-loop-i
 invariant-loop-i g l =
-    (l.i ≤ l.n) × Room (2 * l.w) l.n l.words l.coeffs
+    let s = l.fn.rows in
+    (l.i ≤ l.n) × SameRows s l.rows × (l.rows.words.now ≡ s.words.now)
     × ((f : Key → Option Float)
-    → ((i : ℕ) (r : Option Float) → i < l.n → FnReturnsAt g.F.Fn l.factor (key_at (2 * l.w) l.words i) r → r ≡ f (key_at (2 * l.w) l.words i))
-    → Holds (2 * l.w) l.n l.n (map_to (scaled_at f) l.i (terms_in (2 * l.w) l.n l.words l.fn.coeffs)) l.words l.words l.fn.coeffs l.coeffs)
+    → ((i : ℕ) (r : Option Float) → i < l.n → FnReturnsAt g.F.Fn l.factor (row_key s i) r → r ≡ f (row_key s i))
+    → Holds (2 * s.w) l.n l.n (map_to (scaled_at f) l.i (row_terms s l.n)) s.words.now l.rows.words.now s.coeffs.now l.rows.coeffs.now)

@@ -1,15 +1,27 @@
 -- The rows that share a key are one, and those that this frees are cleared.
-use Rattle.std.proofs.Common.{refl, rules}
+use Rattle.std.proofs.Common.{rules}
+use Rattle.rows.proofs.LentLaws.{same_trans}
 use Rattle.branches.proofs.ShareLaws.{coalesced_none, coalesced_past, coalesced_done}
 use Rattle.branches.proofs.start.coalesce.Goals as goal
-use Rattle.branches.proofs.start.coalesce.Goals.{then-n-eq0-via-then-n-eq0, then-n-eq0-via-else-n-eq0+then-rows_in-n}
+use Rattle.branches.proofs.start.coalesce.Goals.{then-n-eq0-via-then-n-eq0, then-n-eq0-via-else-n-eq0+then-count-n}
 
-pub returns-then-n-eq0 : goal.returns-then-n-eq0
-returns-then-n-eq0 c =
-    elim c.then-n-eq0.branch [
-      | then-n-eq0-via-then-n-eq0 w ↦ (coalesced_none _ _ w.if-n-eq0.true, refl)
-      | then-n-eq0-via-else-n-eq0+then-rows_in-n w ↦ (coalesced_past _ _ w.rows_in.ensures w.if-rows_in-n.true, refl)
-    ]
+pub returns-then-n-eq0-clause-terms : goal.returns-then-n-eq0-clause-terms
+returns-then-n-eq0-clause-terms c =
+    record {
+      same = search rules;
+      left = elim c.then-n-eq0.branch [
+        | then-n-eq0-via-then-n-eq0 w ↦ coalesced_none _ _ w.if-n-eq0.true
+        | then-n-eq0-via-else-n-eq0+then-count-n w ↦ coalesced_past _ _ w.count.ensures w.if-count-n.true
+      ];
+    }
 
-pub returns : goal.returns
-returns c = let a = c.args in (coalesced_done a.w a.n c.rows_in.ensures c.if-rows_in-n.false c.share_rows-count.ensures c.clear_rows.ensures, search rules)
+pub returns-clause-terms : goal.returns-clause-terms
+returns-clause-terms c =
+    let a = c.args in
+    let s = a.rows.now in
+    let e = c.share_rows-count.ensures.terms in
+    let f = c.clear.ensures in
+    record {
+      same = same_trans e.0.same f.same;
+      left = coalesced_done s.w a.n c.count.ensures c.if-count-n.false (e.0.left, e.1) (rw e.0.same.width at f.left);
+    }

@@ -5,5 +5,9 @@ use Rattle.branches.proofs.start.single_term.Goals as goal
 pub returns : goal.returns
 returns c =
     let a = c.args in
-    single_done a.w a.line a.keys.now a.weight a.words.now a.coeffs.now
-    c.rows_in.ensures c.if-rows_in-lt1.false c.rows_of.ensures c.if-rows_of-line.false c.start_row.ensures
+    let s = a.rows.now in
+    let e = c.start_row.ensures in
+    record {
+      same = e.same;
+      left = single_done s.w a.line a.keys.now a.weight s.words.now s.coeffs.now c.count.ensures c.if-count-lt1.false c.rows_of.ensures c.if-rows_of-line.false e.left;
+    }

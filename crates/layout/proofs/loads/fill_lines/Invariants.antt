@@ -1,6 +1,7 @@
 -- The lines before i are written.
 use Rattle.std.proofs.Common.{◌≡◌, ◌+◌}
 use Rattle.text.specs.Bytes.{parts, newline}
+use Rattle.rows.specs.Lent.{SameRows}
 use Rattle.layout.specs.Cursor.{start_at}
 use Rattle.layout.specs.Loaded.{keys_with, weights_with}
 use Rattle.layout.proofs.loads.fill_lines.Given as goal
@@ -8,6 +9,7 @@ use Rattle.layout.proofs.loads.fill_lines.Given as goal
 abbrev pub invariant-loop-i : goal.invariant-loop-i
 invariant-loop-i l = record {
   place : l.at ≡ start_at l.s 0 (6 + l.i);
-  keys : l.keys ≡ keys_with l.w l.i (parts newline l.s) l.fn.keys;
-  weights : l.weights ≡ weights_with l.i (parts newline l.s) l.fn.weights;
+  same : SameRows l.fn.table l.table;
+  keys : l.table.words.now ≡ keys_with l.fn.table.w l.i (parts newline l.s) l.fn.table.words.now;
+  weights : l.table.coeffs.now ≡ weights_with l.i (parts newline l.s) l.fn.table.coeffs.now;
 }

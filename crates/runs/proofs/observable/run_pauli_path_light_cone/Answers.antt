@@ -9,5 +9,9 @@ pub returns : goal.returns
 returns c =
     let a = c.args in let o = a.observable in let ops = a.circuit.ops.now in
     let marks = λ (w : ℕ). overlay (set_marks (letters_in_any w o.keys.now (min (length o.weights.now) (length o.keys.now / (2 * w)))) ops) (replicate 4096 false) in
-    wide_ran a.circuit.qubits a.limits o.keys.now o.weights.now ops
-    (sum_marked a.circuit.qubits a.limits o.keys.now o.weights.now ops _ (replicate 4096 false) (length_cone _ ops) few_ops (c.wide_marks.ensures ∙ ap marks c.width.ensures) c.run_sum.ensures)
+    let E = c.run_sum.ensures in
+    record {
+      same = E.same;
+      left = wide_ran a.circuit.qubits a.limits o.keys.now o.weights.now ops
+          (sum_marked a.circuit.qubits a.limits o.keys.now o.weights.now ops _ (replicate 4096 false) (length_cone _ ops) few_ops (c.wide_marks.ensures ∙ ap marks c.width.ensures) E.left);
+    }

@@ -1,4 +1,5 @@
-use Rattle.sheet.proofs.AnswerLaws.{answered_refused, answered_laid}
+use Rattle.std.proofs.Common.{rules}
+use Rattle.sheet.proofs.AnswerLaws.{answered_refused, answered_laid, answered_left}
 use Rattle.sheet.proofs.answer.answer.Goals as goal
 
 pub returns-in-Err : goal.returns-in-Err
@@ -7,4 +8,6 @@ returns-in-Err c =
 
 pub returns-in-Ok : goal.returns-in-Ok
 returns-in-Ok c =
-    answered_laid c.args.s.now c.args.words.now _ c.args.coeffs.now _ c.args.means.now _ c.args.index.now _ _ _ c.read_head.ensures c.in-Ok.ensures c.answer_laid.ensures
+    answered_left
+    (answered_laid c.args.s.now c.args.words.now _ c.args.coeffs.now _ c.args.means.now _ c.args.index.now _ _ _ c.read_head.ensures c.in-Ok.ensures c.answer_laid.ensures.left)
+    (search rules) (search rules) (search rules)

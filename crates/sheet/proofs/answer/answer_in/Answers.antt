@@ -1,6 +1,7 @@
 use Rattle.std.proofs.Common.{take, sym, ap, ◌∙◌}
 use Rattle.text.specs.Bytes.{parts, newline}
 use Rattle.questions.proofs.VerdictLaws.{early_passed}
+use Rattle.turns.proofs.LentMemory.{memory_start}
 use Rattle.sheet.proofs.AnswerLaws.{laid_sound, later_is, refused_reply, passed_reply}
 use Rattle.sheet.proofs.answer.answer_in.Goals as goal
 
@@ -14,17 +15,21 @@ pub answer_passed-requires-clause-passed : goal.answer_passed-requires-clause-pa
 answer_passed-requires-clause-passed c =
     let h = c.args.sheet.head in
     let ls = parts newline c.args.sheet.text.now in
-    early_passed h ls _ _ c.requires.early ∙ sym (later_is h ls c.args.words.now c.args.coeffs.now c.args.means.now _ _ _ c.width.ensures c.rows_in-rows.ensures c.in-Ok.ensures)
+    let m = c.args.memory.now in
+    early_passed h ls _ _ c.requires.early ∙ sym (later_is h ls m.words.now m.coeffs.now c.args.means.now _ _ _ c.width.ensures c.rows_in-rows.ensures c.in-Ok.ensures)
 
 pub returns-in-Err : goal.returns-in-Err
 returns-in-Err c =
     let h = c.args.sheet.head in
     let ls = parts newline c.args.sheet.text.now in
-    refused_reply h ls c.args.words.now c.args.coeffs.now c.args.means.now c.args.index.now
-    (later_is h ls c.args.words.now c.args.coeffs.now c.args.means.now _ _ _ c.width.ensures c.rows_in-rows.ensures c.in-Err.ensures) c.refusal.ensures
+    let m = c.args.memory.now in
+    memory_start m (refused_reply h ls m.words.now m.coeffs.now c.args.means.now m.index.now
+    (later_is h ls m.words.now m.coeffs.now c.args.means.now _ _ _ c.width.ensures c.rows_in-rows.ensures c.in-Err.ensures) c.refusal.ensures)
 
 pub returns-in-Ok : goal.returns-in-Ok
 returns-in-Ok c =
     let h = c.args.sheet.head in
     let ls = parts newline c.args.sheet.text.now in
-    passed_reply h ls (later_is h ls c.args.words.now c.args.coeffs.now c.args.means.now _ _ _ c.width.ensures c.rows_in-rows.ensures c.in-Ok.ensures) c.answer_passed.ensures
+    let m = c.args.memory.now in
+    let e = c.answer_passed.ensures in
+    record { same = e.same; left = passed_reply h ls (later_is h ls m.words.now m.coeffs.now c.args.means.now _ _ _ c.width.ensures c.rows_in-rows.ensures c.in-Ok.ensures) e.left }

@@ -15,12 +15,16 @@ use Rattle.sheet.proofs.running.run_table.Goals as goal
 pub returns-in-All : goal.returns-in-All
 returns-in-All c =
     let a = c.args in
+    let m = c.args.memory.now in
     let t = table_task a.head a.observable.keys.now a.observable.weights.now a.ops.now in
     let n = length a.means.now in
     let ran = c.run_spd_lowered in
-    all_ended a.head a.observable.keys.now a.observable.weights.now a.ops.now a.words.now a.coeffs.now a.means.now a.index.now c.requires c.in-All.is
-    (as_sheet a.head
-    (λ (q : ℕ) (l : Limits) (os : List Op). let rows = rows_in (width_of q) a.words.now a.coeffs.now in
-    AllRan q (all_held q l os rows n) (all_asked q l os rows n) ran.result a.words.now ran.new.words a.coeffs.now ran.new.coeffs a.means.now ran.new.means a.index.now ran.new.index)
-    c.new-circuit.ensures.qubits c.limits_of-limits.ensures c.new-circuit.ensures.ops ran.ensures)
-    (ap (λ (r : Run). left_by (outcome_of r t)) c.in-All.is ∙ all_left t t.qubits)
+    record {
+      same = ran.ensures.same;
+      left = all_ended a.head a.observable.keys.now a.observable.weights.now a.ops.now m.words.now m.coeffs.now a.means.now m.index.now c.requires c.in-All.is
+          (as_sheet a.head
+          (λ (q : ℕ) (l : Limits) (os : List Op). let rows = rows_in (width_of q) m.words.now m.coeffs.now in
+          AllRan q (all_held q l os rows n) (all_asked q l os rows n) ran.result m.words.now ran.new.memory.words.now m.coeffs.now ran.new.memory.coeffs.now a.means.now ran.new.means m.index.now ran.new.memory.index.now)
+          c.new-circuit.ensures.qubits c.limits_of-limits.ensures c.new-circuit.ensures.ops ran.ensures.left)
+          (ap (λ (r : Run). left_by (outcome_of r t)) c.in-All.is ∙ all_left t t.qubits);
+    }

@@ -5,15 +5,25 @@ use Rattle.turns.proofs.finish.finish.Goals.{then-not-fine-via-then-not-fine, th
 pub returns-then-not-fine : goal.returns-then-not-fine
 returns-then-not-fine c =
     let a = c.args in
-    elim c.then-not-fine.branch [
-      | then-not-fine-via-then-not-fine w ↦ finished_8 a.w a.limits a.at c.requires c.final_sweep-left.ensures c.diagonal_expectation-mean.ensures c.fine.ensures w.if-not-fine.true
-      | then-not-fine-via-else-not-fine+then-not-is_finite w ↦
-          finished_mean a.w a.limits a.at c.requires c.final_sweep-left.ensures c.diagonal_expectation-mean.ensures c.fine.ensures w.if-not-fine.false
-          w.is_finite.ensures w.if-not-is_finite.true
-    ]
+    let s = c.args.rows.now in
+    let d = c.final_sweep-left.ensures in
+    let m = rw d.same.width at c.diagonal_expectation-mean.ensures in
+    record {
+      same = d.same;
+      left = elim c.then-not-fine.branch [
+        | then-not-fine-via-then-not-fine w ↦ finished_8 s.w a.limits a.at c.requires d.left m c.fine.ensures w.if-not-fine.true
+        | then-not-fine-via-else-not-fine+then-not-is_finite w ↦
+            finished_mean s.w a.limits a.at c.requires d.left m c.fine.ensures w.if-not-fine.false w.is_finite.ensures w.if-not-is_finite.true
+      ];
+    }
 
 pub returns : goal.returns
 returns c =
     let a = c.args in
-    finished a.w a.limits a.at c.requires c.final_sweep-left.ensures c.diagonal_expectation-mean.ensures c.fine.ensures c.is_finite.ensures
-    c.if-not-fine.false c.if-not-is_finite.false
+    let s = c.args.rows.now in
+    let d = c.final_sweep-left.ensures in
+    record {
+      same = d.same;
+      left = finished s.w a.limits a.at c.requires d.left (rw d.same.width at c.diagonal_expectation-mean.ensures) c.fine.ensures c.is_finite.ensures
+          c.if-not-fine.false c.if-not-is_finite.false;
+    }

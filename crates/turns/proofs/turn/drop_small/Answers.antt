@@ -1,6 +1,8 @@
-use Rattle.std.proofs.Common.{rules}
 use Rattle.turns.proofs.TurnLaws.{dropped}
 use Rattle.turns.proofs.turn.drop_small.Goals as goal
 
 pub returns : goal.returns
-returns c = dropped c.args.w c.args.at c.args.words.now c.args.coeffs.now c.args.epsilon c.requires (λ j. search rules) c.truncate-kept.ensures
+returns c =
+    let s = c.args.rows.now in
+    let e = c.truncate-kept.ensures in
+    record { same = e.same; left = dropped s.w c.args.at s.words.now s.coeffs.now c.args.epsilon c.requires c.fits64.ensures e.left }

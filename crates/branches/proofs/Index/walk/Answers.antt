@@ -2,8 +2,8 @@
 use Rattle.std.proofs.Common.{◌≡◌, ◌-◌, ◌*◌, ◌<◌, Bool, Some, cond, sym, ap, ◌∙◌, rules, arith}
 use Rattle.rows.proofs.RowLaws.{row_before}
 use Rattle.branches.proofs.WalkLaws.{walk_begins, walk_falls, walk_goes, walk_ends}
-use Rattle.branches.proofs.chains.walk.Goals as goal
-use Rattle.branches.proofs.chains.walk.Goals.{then-is_sought, else-is_sought}
+use Rattle.branches.proofs.Index.walk.Goals as goal
+use Rattle.branches.proofs.Index.walk.Goals.{then-is_sought, else-is_sought}
 
 pub loop-at-init : goal.loop-at-init
 loop-at-init c L = walk_begins _ _ _ _ c.args.b c.requires.1.1.0 L
@@ -13,7 +13,7 @@ is_sought-requires c =
     let l = c.loop-at in
     let b = (l.invariant c.requires.1.1.1).below in
     let h : l.at - 1 < c.args.n = omega arith in
-    let r = row_before (2 * c.args.w) h in
+    let r = row_before (2 * c.args.rows.now.w) h in
     (c.requires.1.0, omega arith)
 
 pub overflow_add-at : goal.overflow_add-at
@@ -22,14 +22,14 @@ overflow_add-at c =
     let r = c.requires.1.1.1.room in
     search rules
 
-pub offset_bounds-index-buckets : goal.offset_bounds-index-buckets
-offset_bounds-index-buckets c =
+pub offset_bounds-self-self : goal.offset_bounds-self-self
+offset_bounds-self-self c =
     let b = (c.loop-at.invariant c.requires.1.1.1).below in
     let r = c.requires.1.1.1.room in
     search rules
 
-pub bounds-index-buckets : goal.bounds-index-buckets
-bounds-index-buckets c =
+pub bounds-self-self : goal.bounds-self-self
+bounds-self-self c =
     let b = (c.loop-at.invariant c.requires.1.1.1).below in
     let r = c.requires.1.1.1.room in
     omega arith
