@@ -3,7 +3,8 @@
 ghost use Rattle.std.specs.Prelude.{◌≡◌, true, ◌+◌, ◌≤◌, ◌<◌, length, replicate};
 ghost use Rattle.words.specs.Keys.{same_key};
 ghost use Rattle.terms.specs.Branch.{first};
-ghost use Rattle.rows.specs.Lent.{row_key, HasKey, HasKeys};
+ghost use Rattle.rows.specs.Lent.{row_key};
+ghost use Rattle.rows.specs.There.{HasKey, HasKeys};
 ghost use Rattle.branches.specs.Probe.{sought_by, files};
 ghost use Rattle.branches.specs.Chains.{stirred, spread, class_of, bucket_of, pushed, Linked, Spare, Walked};
 ghost use Rattle.branches.specs.Index.{Indexes, Spares, SameIndex, SameIf, InMemory};

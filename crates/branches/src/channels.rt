@@ -8,7 +8,8 @@ ghost use Rattle.branches.specs.Letters.{letter_of, letter_factor};
 ghost use Rattle.branches.specs.declared.Sought.TheVariants.{Identity};
 ghost use Rattle.branches.specs.Index.{Indexes, Spares, SameIf};
 ghost use Rattle.rows.specs.Rows.{met_in, Stored, Holds, Grown};
-ghost use Rattle.rows.specs.Lent.{row_key, row_term, row_terms, HasRow, HasRows, OnRows};
+ghost use Rattle.rows.specs.Lent.{row_key, row_term, row_terms, OnRows};
+ghost use Rattle.rows.specs.There.{HasRow, HasRows};
 
 use crate::scaling::scale_rows;
 use crate::{Index, Sought, chains, partners, probe};

@@ -5,7 +5,8 @@
 // there; `mate` reads it. n, how many rows the table has, is a parameter, as in every step over rows.
 ghost use Rattle.std.specs.Prelude.{◌≡◌, true, ◌+◌, ◌≤◌, ◌<◌, length, get_or};
 ghost use Rattle.terms.specs.Rotation.{met_by, on_key};
-ghost use Rattle.rows.specs.Lent.{row_key, HasKeys};
+ghost use Rattle.rows.specs.Lent.{row_key};
+ghost use Rattle.rows.specs.There.{HasKeys};
 ghost use Rattle.branches.specs.Pairs.{mate_of, code_at, joined, begun, passed, Told, Pairing, Roomy};
 ghost use Rattle.branches.specs.Index.{Tables, SameIndex, InMemory};
 

@@ -3,7 +3,8 @@ ghost use Rattle.std.specs.Prelude.{◌≡◌, ◌*◌, ◌<◌};
 ghost use Rattle.terms.specs.Rotation.{partner_by};
 ghost use Rattle.terms.specs.Term.{term};
 ghost use Rattle.rows.specs.Rows.{put_key, Stored};
-ghost use Rattle.rows.specs.Lent.{row_key, HasKey, HasRow, SameRows, OnRows};
+ghost use Rattle.rows.specs.Lent.{row_key, SameRows, OnRows};
+ghost use Rattle.rows.specs.There.{HasKey, HasRow};
 
 use rows::{Rows, row};
 use terms::Axis;

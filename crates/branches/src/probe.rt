@@ -5,7 +5,8 @@ ghost use Rattle.terms.specs.Rotation.{met_by, on_key};
 ghost use Rattle.terms.specs.Branch.{first};
 ghost use Rattle.words.specs.Letters.{is_odd};
 ghost use Rattle.terms.specs.Term.{odd_y};
-ghost use Rattle.rows.specs.Lent.{row_key, HasKey, HasKeys};
+ghost use Rattle.rows.specs.Lent.{row_key};
+ghost use Rattle.rows.specs.There.{HasKey, HasKeys};
 ghost use Rattle.branches.specs.Probe.{sought_by, files, flipped_word, partner_word, sought_word};
 
 use crate::Sought;

@@ -4,7 +4,8 @@ ghost use Rattle.words.specs.Letters.{is_odd};
 ghost use Rattle.terms.specs.Rotation.{mixed};
 ghost use Rattle.terms.specs.Met.{targets, axis_targets};
 ghost use Rattle.rows.specs.Rows.{coeff_at, met_in, put_coeff, Holds};
-ghost use Rattle.rows.specs.Lent.{row_terms, HasRows, OnRows};
+ghost use Rattle.rows.specs.Lent.{row_terms, OnRows};
+ghost use Rattle.rows.specs.There.{HasRows};
 ghost use Rattle.branches.specs.Index.{Tables};
 ghost use Rattle.branches.specs.Rotated.{Rotated, met_factor, lone_by, row_by, rows_by};
 

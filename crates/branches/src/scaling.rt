@@ -3,7 +3,8 @@ ghost use Rattle.std.specs.Prelude.{◌≡◌, Option, map, ◌*◌, ◌<◌, �
 ghost use Rattle.std.specs.Fn.{FnReturnsAt};
 ghost use Rattle.words.specs.Keys.{Key};
 ghost use Rattle.rows.specs.Rows.{Holds};
-ghost use Rattle.rows.specs.Lent.{row_key, row_terms, HasRows, SameRows};
+ghost use Rattle.rows.specs.Lent.{row_key, row_terms, SameRows};
+ghost use Rattle.rows.specs.There.{HasRows};
 ghost use Rattle.branches.specs.Scaling.{scaled_at};
 
 use crate::probe;

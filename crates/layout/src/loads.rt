@@ -4,7 +4,8 @@ ghost use Rattle.text.specs.Bytes.{parts, newline};
 ghost use Rattle.terms.specs.Lists.{foldl};
 ghost use Rattle.terms.specs.Term.{term};
 ghost use Rattle.rows.specs.Rows.{Stored};
-ghost use Rattle.rows.specs.Lent.{row_key, HasRow, HasRows, OnRows};
+ghost use Rattle.rows.specs.Lent.{row_key, OnRows};
+ghost use Rattle.rows.specs.There.{HasRow, HasRows};
 ghost use Rattle.lines.specs.TermLines.{weight_on, factors_on, placed};
 ghost use Rattle.layout.specs.Loaded.{with_ops, keys_with, weights_with, LinesLoaded};
 

@@ -1,9 +1,9 @@
 -- The rows of lent memory as one value, and what a function leaves of them.
-use Rattle.std.specs.Prelude.{◌≡◌, ℕ, ◌+◌, ◌*◌, ◌≤◌, ◌<◌, List, length, Float}
+use Rattle.std.specs.Prelude.{◌≡◌, ℕ, ◌*◌, List, length, Float}
 use Rattle.terms.specs.Term.{Term}
 use Rattle.words.specs.Rows.{key_at}
 use Rattle.words.specs.Keys.{Key}
-use Rattle.rows.specs.Rows.{coeff_at, term_at, terms_in, rows_in, Room}
+use Rattle.rows.specs.Rows.{coeff_at, term_at, terms_in, rows_in}
 use Rattle.rows.specs.declared.Rows.{Rows}
 
 abbrev pub row_key : Rows → ℕ → Key
@@ -22,20 +22,6 @@ row_terms r n = terms_in (2 * r.w) n r.words.now r.coeffs.now
 -- how many rows both buffers hold whole
 abbrev pub row_count : Rows → ℕ
 row_count r = rows_in r.w r.words.now r.coeffs.now
-
--- row i is there: its key, and its number too
-abbrev pub HasKey : Rows → ℕ → Type 0
-HasKey r i = i * (2 * r.w) + 2 * r.w ≤ length r.words.now
-
-abbrev pub HasRow : Rows → ℕ → Type 0
-HasRow r i = HasKey r i × (i < length r.coeffs.now)
-
--- the first n rows are
-abbrev pub HasKeys : Rows → ℕ → Type 0
-HasKeys r n = n * (2 * r.w) ≤ length r.words.now
-
-abbrev pub HasRows : Rows → ℕ → Type 0
-HasRows r n = Room (2 * r.w) n r.words.now r.coeffs.now
 
 -- the same slices, at the same width
 pub record SameRows (r r' : Rows) : Type 0 where

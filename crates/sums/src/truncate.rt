@@ -2,7 +2,8 @@
 ghost use Rattle.std.specs.Prelude.{◌≡◌, ◌*◌, ◌≤◌};
 ghost use Rattle.terms.specs.Truncation.{kept_of, dropped_of};
 ghost use Rattle.rows.specs.Rows.{Stored, Holds};
-ghost use Rattle.rows.specs.Lent.{row_term, row_terms, HasRow, HasRows, OnRows};
+ghost use Rattle.rows.specs.Lent.{row_term, row_terms, OnRows};
+ghost use Rattle.rows.specs.There.{HasRow, HasRows};
 ghost use Rattle.sums.specs.Steps.{KeptRow, Truncated};
 
 use crate::Kept;

@@ -2,7 +2,9 @@
 use Rattle.std.specs.Prelude.{◌≡◌, Bool, cond, ◌&&◌, List, [], ◌∷◌, ℕ, ◌*◌, ◌≤◌, max, leb, length, get_or, Float, Result, Ok, Err, IfOk}
 use Rattle.terms.specs.Term.{Term, Distinct}
 use Rattle.numbers.specs.Tests.{is_finite}
+use Rattle.rows.specs.declared.Rows.{Rows}
 use Rattle.rows.specs.Rows.{terms_in, rows_in, Holds}
+use Rattle.rows.specs.Lent.{OnRows}
 use Rattle.sums.specs.Steps.{finite_rows}
 use Rattle.ops.specs.declared.Limits.{Limits}
 use Rattle.ops.specs.declared.Op.{Op}
@@ -91,3 +93,23 @@ within_of l p = cond (leb p.count l.limit) (Ok (record { count = p.count; tally 
 -- questions 8 and 9 read no words
 abbrev pub CheckedIn : Limits → Progress → List Float → Result Progress Refusal → Type 0
 CheckedIn l p cs r = (w : ℕ) (ws : List ℕ) → stage_in w r ws cs ≡ checked l (state_in w p ws cs)
+
+-- ---- the same of lent rows
+
+abbrev pub state_of : Progress → Rows → State
+state_of p r = state_in r.w p r.words.now r.coeffs.now
+
+abbrev pub RowsReady : Limits → ℕ → Rows → Type 0
+RowsReady l n r = Ready r.w l n r.words.now r.coeffs.now
+
+abbrev pub RowsFresh : Limits → Progress → List Op → Rows → Type 0
+RowsFresh l p ops r = Fresh r.w l p ops r.words.now r.coeffs.now
+
+abbrev pub RowsTell : Limits → Result Progress Refusal → Stage State → Rows → Rows → Type 0
+RowsTell l a s r = OnRows (λ ws ws' cs cs'. Tells r.w l a ws ws' cs cs' s) r
+
+abbrev pub RowsEnd : Limits → Result Finished Refusal → Stage Outcome → Rows → Rows → Type 0
+RowsEnd l a s r = OnRows (λ ws ws' cs cs'. Ends r.w l a ws ws' cs cs' s) r
+
+abbrev pub RowsDropped : ℕ → Progress → State → Rows → Rows → Type 0
+RowsDropped n p s r = OnRows (λ ws ws' cs cs'. AfterDrop r.w n p ws ws' cs cs' s) r

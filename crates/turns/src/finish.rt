@@ -2,7 +2,7 @@
 ghost use Rattle.std.specs.Prelude.{◌≡◌, ◌≤◌};
 ghost use Rattle.rows.specs.Lent.{row_count};
 ghost use Rattle.dynamics.specs.Turn.{last_drop, finish};
-ghost use Rattle.turns.specs.Lent.{state_of, RowsDropped, RowsReady, RowsEnd};
+ghost use Rattle.turns.specs.Told.{state_of, RowsDropped, RowsReady, RowsEnd};
 
 use crate::{Finished, Progress, turn};
 use ops::{Limits, Refusal};

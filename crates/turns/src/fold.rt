@@ -5,7 +5,7 @@ ghost use Rattle.dynamics.specs.Outcome.{nothing_yet, fold_lines, ask_totals, fo
 ghost use Rattle.ops.specs.LineTable.{task_of};
 ghost use Rattle.turns.specs.SumRuns.{told_by, results_of};
 ghost use Rattle.turns.specs.Folding.{held, added, RowsSumReady, RowsFold};
-ghost use Rattle.turns.specs.Lent.{RowsEnd};
+ghost use Rattle.turns.specs.Told.{RowsEnd};
 
 use crate::run::run_from;
 use crate::{Finished, Tally, starts};

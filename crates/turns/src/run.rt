@@ -1,7 +1,7 @@
 // Runs over the ops that marks set, from the last to the first.
 ghost use Rattle.std.specs.Prelude.{◌≡◌, ◌*◌, ◌≤◌, length};
 ghost use Rattle.dynamics.specs.Runs.{runs, marked_run};
-ghost use Rattle.turns.specs.Lent.{state_of, RowsFresh, RowsTell, RowsEnd};
+ghost use Rattle.turns.specs.Told.{state_of, RowsFresh, RowsTell, RowsEnd};
 
 use crate::{Finished, Progress, finish, turn};
 use ops::{Limits, Op, Refusal};

@@ -8,8 +8,7 @@ ghost use Rattle.branches.specs.Started.{Started, lines_of};
 ghost use Rattle.dynamics.specs.Turn.{going, state};
 ghost use Rattle.dynamics.specs.Runs.{begin};
 ghost use Rattle.dynamics.specs.Outcome.{z_key};
-ghost use Rattle.turns.specs.Told.{tally};
-ghost use Rattle.turns.specs.Lent.{RowsTell};
+ghost use Rattle.turns.specs.Told.{tally, RowsTell};
 
 use crate::{Progress, Tally};
 use ops::{Limits, Observable};

@@ -4,7 +4,8 @@ ghost use Rattle.ops.specs.LineTable.{task_of};
 ghost use Rattle.dynamics.specs.Outcome.{sum_run};
 ghost use Rattle.turns.specs.SumRuns.{sum_fits, SumRan};
 ghost use Rattle.turns.specs.Folding.{meets_nine, RowsSumReady};
-ghost use Rattle.turns.specs.Lent.{RowsEnd, OnMemory};
+ghost use Rattle.turns.specs.Lent.{OnMemory};
+ghost use Rattle.turns.specs.Told.{RowsEnd};
 
 use crate::run::run_from;
 use crate::{Finished, Memory, fold, starts};

@@ -4,8 +4,7 @@ ghost use Rattle.terms.specs.Term.{Distinct};
 ghost use Rattle.rows.specs.Lent.{row_terms, row_count};
 ghost use Rattle.dynamics.specs.Turn.{drop_small, settle};
 ghost use Rattle.dynamics.specs.Runs.{turn};
-ghost use Rattle.turns.specs.Told.{fine_in, within_of, CheckedIn};
-ghost use Rattle.turns.specs.Lent.{state_of, RowsDropped, RowsReady, RowsTell};
+ghost use Rattle.turns.specs.Told.{fine_in, within_of, CheckedIn, state_of, RowsDropped, RowsReady, RowsTell};
 
 use crate::peaks::note_count;
 use crate::{Progress, Tally, apply};
