@@ -9,7 +9,7 @@ use text::parts::{part_after, part_before, part_from, part_to};
 use words::rows::width;
 
 // The reply to a sheet that is longer than the longest: status 1 at line 0. The function of sheet that makes it, `refusal`, is not public, and
-// these nine fields are no longer than a public function for one caller.
+// these nine fields are as short as a public function for one caller.
 fn too_long() -> Reply {
     Reply {
         status: 1,

@@ -77,15 +77,15 @@ pub(crate) fn apply_backward(op: Op, rows: &mut Rows<'_>, index: &mut [u32], n: 
             let rotation = about_z(q, -sine_t(), cosine_t());
             branch_rotation(rows, index, n, rotation)
         }
-        Op::Rz(q, s, c) | Op::P(q, s, c) => { branch_rotation(rows, index, n, about_z(q, s, c)) }
+        Op::Rz(q, s, c) | Op::P(q, s, c) => branch_rotation(rows, index, n, about_z(q, s, c)),
         Op::Rzz(a, b, sin, cos) => {
             let axis = Axis::Zz(a, b);
             branch_rotation(rows, index, n, Rotation { axis, sin, cos })
         }
-        Op::Pauli(q, x, y, z) => { apply_channel(rows, index, n, Noise::Pauli(x, y, z), q, 0) }
-        Op::Depol(q, p) => { apply_channel(rows, index, n, Noise::Depolarizing(p), q, 0) }
-        Op::Damp(q, g) => { apply_channel(rows, index, n, Noise::AmplitudeDamping(g), q, 0) }
-        Op::Phase(q, g) => { apply_channel(rows, index, n, Noise::PhaseDamping(g), q, 0) }
+        Op::Pauli(q, x, y, z) => apply_channel(rows, index, n, Noise::Pauli(x, y, z), q, 0),
+        Op::Depol(q, p) => apply_channel(rows, index, n, Noise::Depolarizing(p), q, 0),
+        Op::Damp(q, g) => apply_channel(rows, index, n, Noise::AmplitudeDamping(g), q, 0),
+        Op::Phase(q, g) => apply_channel(rows, index, n, Noise::PhaseDamping(g), q, 0),
         Op::Thermal(q, d, p, e) => {
             let channel = Noise::ThermalRelaxation(d, p, e);
             apply_channel(rows, index, n, channel, q, 0)
