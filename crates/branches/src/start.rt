@@ -29,6 +29,16 @@ fn signed(quarters: u8, weight: f64) -> f64
     negated_if(weight, usize::from(quarters) % 4 / 2)
 }
 
+// A key, word by word: std's copy of a slice calls `memmove`, and the library for C needs no more from outside than `memcpy` and `memset`.
+fn copy_key(to: &mut [u64], from: &[u64])
+    requires { length to.old ≡ length from.now }
+    ensures { to.new ≡ from.now }
+{
+    for k in 0..from.len() {
+        to[k] = from[k];
+    }
+}
+
 // A row becomes the term of a line, with a weight.
 fn start_row(rows: &mut Rows<'_>, row: usize, keys: &[u64], line: usize, weight: f64)
     requires { (row < row_count rows.old) × (line < length keys.now / (2 * rows.old.w)) }
@@ -36,7 +46,7 @@ fn start_row(rows: &mut Rows<'_>, row: usize, keys: &[u64], line: usize, weight:
 {
     let size = 2 * rows.w;
     let key = &keys[line * size..line * size + size];
-    rows.words[row * size..row * size + size].copy_from_slice(key);
+    copy_key(&mut rows.words[row * size..row * size + size], key);
     rows.coeffs[row] = signed(y_quarters(key, rows.w), weight);
 }
 

@@ -43,7 +43,8 @@ impl Rows<'_> {
     }
 
     // How many of the first n terms have a letter at a or, with a second target, at b; none where there are not that many rows, or no words for the
-    // targets.
+    // targets. Inlined: an op that meets nothing costs little more than this.
+    #[inline(always)]
     pub fn met(&self, n: usize, a: usize, b: Option<usize>) -> usize
         ensures { result ≡ met_in self.now.w (targets a b) n self.now.words.now self.now.coeffs.now }
     {

@@ -74,14 +74,18 @@ pub fn conjugate_all_backward_phased(
 {
     let second = has_two_targets(gate).then_some(b);
     let met = rows.met(n, a, second);
+    let there = has_targets(rows.w, a, second);
+    if met == 0 && there {
+        return met;
+    }
     if rows.count() < n {
         return met;
     }
     let w = rows.w;
-    if !has_targets(w, a, second) {
-        gate_rows(rows.words, rows.coeffs, w, n, || gate, a, b);
-    } else if met != 0 {
+    if there {
         conjugate_by_gate(rows.words, rows.coeffs, w, n, gate, a, b);
+    } else {
+        gate_rows(rows.words, rows.coeffs, w, n, || gate, a, b);
     }
     met
 }

@@ -11,6 +11,6 @@ returns c =
     let s = a.rows.now in
     record {
       same = search rules;
-      left = line_row s.w a.row a.line a.keys.now a.weight s.words.now s.coeffs.now (part_key (2 * s.w) a.line a.keys.now) (part_put (2 * s.w) a.row s.words.now c.copy_from_slice.ensures.after)
+      left = line_row s.w a.row a.line a.keys.now a.weight s.words.now s.coeffs.now (part_key (2 * s.w) a.line a.keys.now) (part_put (2 * s.w) a.row s.words.now c.copy_key.ensures)
           c.y_quarters.ensures c.signed.ensures refl;
     }

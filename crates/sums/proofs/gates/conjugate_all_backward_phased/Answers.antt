@@ -9,21 +9,22 @@ use Rattle.rows.proofs.LentLaws.{on_rows_left}
 use Rattle.sums.proofs.GateRows.{stepped_through, through_arm}
 use Rattle.sums.proofs.gates.conjugate_all_backward_phased.Goals as goal
 
-pub returns-then-not-has_targets : goal.returns-then-not-has_targets
-returns-then-not-has_targets c =
+pub returns-then-there : goal.returns-then-there
+returns-then-there c =
     let a = c.args in
     let s = c.args.rows.now in
     let t : targets a.a c.then_some-second.result ≡ gate_targets a.gate a.a a.b = targets_of (has_two_targets a.gate) a.a a.b (cc) in
-    let e : a.gate ≡ c.gate_rows.ensures.0 = search rules in
-    let L = through_arm s.w a.n a.a a.b e c.gate_rows.ensures.2 in
+    let m = c.met-met.ensures ∙ ap (λ (qs : List ℕ). met_in s.w qs a.n s.words.now s.coeffs.now) t in
+    let f : in_words s.w (gate_targets a.gate a.a a.b) ≡ true = ap (in_words s.w) (sym t) ∙ sym c.has_targets-there.ensures ∙ c.if-there.true in
     record {
-      met = c.met-met.ensures ∙ ap (λ (qs : List ℕ). met_in s.w qs a.n s.words.now s.coeffs.now) t;
-      terms = on_rows_left (stepped_through a.gate s.w a.n a.a a.b c.count.ensures c.if-count-n.false L)
-          (search rules) (search rules) refl refl refl L.words_long L.coeffs_long;
+      met = m;
+      terms = on_rows_left (same_stepped s.w a.n _ s.words.now s.coeffs.now
+          (λ e. bare_conjugated s.w a.gate a.a a.b _ (untouched_bare s.w a.n (gate_targets a.gate a.a a.b) s.words.now s.coeffs.now (sym m ∙ c.if-met-eq0.true) f e)))
+          (search rules) (search rules) refl refl refl refl refl;
     }
 
-pub returns-then-met-ne0 : goal.returns-then-met-ne0
-returns-then-met-ne0 c =
+pub returns-then-there-2 : goal.returns-then-there-2
+returns-then-there-2 c =
     let a = c.args in
     let s = c.args.rows.now in
     let t : targets a.a c.then_some-second.result ≡ gate_targets a.gate a.a a.b = targets_of (has_two_targets a.gate) a.a a.b (cc) in
@@ -34,16 +35,15 @@ returns-then-met-ne0 c =
           (search rules) (search rules) refl refl refl L.words_long L.coeffs_long;
     }
 
-pub returns-else-met-ne0 : goal.returns-else-met-ne0
-returns-else-met-ne0 c =
+pub returns-else-there-2 : goal.returns-else-there-2
+returns-else-there-2 c =
     let a = c.args in
     let s = c.args.rows.now in
     let t : targets a.a c.then_some-second.result ≡ gate_targets a.gate a.a a.b = targets_of (has_two_targets a.gate) a.a a.b (cc) in
-    let m = c.met-met.ensures ∙ ap (λ (qs : List ℕ). met_in s.w qs a.n s.words.now s.coeffs.now) t in
-    let f : in_words s.w (gate_targets a.gate a.a a.b) ≡ true = ap (in_words s.w) (sym t) ∙ sym c.has_targets.ensures ∙ c.if-not-has_targets.false in
+    let e : a.gate ≡ c.gate_rows.ensures.0 = search rules in
+    let L = through_arm s.w a.n a.a a.b e c.gate_rows.ensures.2 in
     record {
-      met = m;
-      terms = on_rows_left (same_stepped s.w a.n _ s.words.now s.coeffs.now
-          (λ e. bare_conjugated s.w a.gate a.a a.b _ (untouched_bare s.w a.n (gate_targets a.gate a.a a.b) s.words.now s.coeffs.now (sym m ∙ c.if-met-ne0.false) f e)))
-          (search rules) (search rules) refl refl refl refl refl;
+      met = c.met-met.ensures ∙ ap (λ (qs : List ℕ). met_in s.w qs a.n s.words.now s.coeffs.now) t;
+      terms = on_rows_left (stepped_through a.gate s.w a.n a.a a.b c.count.ensures c.if-count-n.false L)
+          (search rules) (search rules) refl refl refl L.words_long L.coeffs_long;
     }
