@@ -1,7 +1,7 @@
 // One row of the two lent buffers, and how many there are.
 ghost use Rattle.std.specs.Prelude.{◌≡◌, ◌*◌, ◌/◌, ◌+◌, min, leb};
 ghost use Rattle.words.specs.Keys.{Words};
-ghost use Rattle.rows.specs.Rows.{copied_row};
+ghost use Rattle.rows.specs.Rows.{coeff_at, put_coeff, copied_row};
 ghost use Rattle.rows.specs.Lent.{row_count};
 
 use crate::Rows;
@@ -33,6 +33,22 @@ impl Rows<'_> {
 pub fn fits64(words: &[u64])
     ensures { Words words.now }
 {}
+
+// The number of row k; a NaN past the end.
+pub fn value_at(coeffs: &[f64], k: usize) -> f64
+    ensures { result ≡ coeff_at coeffs.now k }
+{
+    coeffs.get(k).copied().unwrap_or(f64::NAN)
+}
+
+// Another number in row k; past the end nothing changes.
+pub fn store_value(coeffs: &mut [f64], k: usize, x: f64)
+    ensures { coeffs.new ≡ put_coeff coeffs.old k x }
+{
+    if k < coeffs.len() {
+        coeffs[k] = x;
+    }
+}
 
 // Whether row i of `size` words lies whole within `len` words. In 128 bits the product fits.
 fn holds_row(len: usize, size: usize, i: usize) -> bool
