@@ -1,6 +1,8 @@
 // The end of a run: the last drop, the mean and question 8.
-ghost use Rattle.std.specs.Prelude.{◌≡◌, ◌≤◌};
-ghost use Rattle.rows.specs.Lent.{row_count};
+ghost use Rattle.std.specs.Prelude.{◌≡◌, cond, leb, ◌≤◌};
+ghost use Rattle.numbers.specs.Constants.{zero64};
+ghost use Rattle.terms.specs.Mean.{mean_of};
+ghost use Rattle.rows.specs.Lent.{row_terms, row_count};
 ghost use Rattle.dynamics.specs.Turn.{last_drop, finish};
 ghost use Rattle.turns.specs.Told.{state_of, RowsDropped, RowsReady, RowsEnd};
 
@@ -19,13 +21,20 @@ fn final_sweep(limits: Limits, rows: &mut Rows<'_>, at: Progress) -> Progress
     at
 }
 
+// The mean of the first n rows.
+fn rows_mean(rows: &Rows<'_>, n: usize) -> f64
+    ensures { result ≡ cond (leb n (row_count rows.now)) (mean_of rows.now.w (row_terms rows.now n)) zero64 }
+{
+    sums::mean::diagonal_expectation(rows.words, rows.coeffs, rows.w, n)
+}
+
 // The end of a run.
 pub(crate) fn finish(limits: Limits, rows: &mut Rows<'_>, at: Progress) -> Result<Finished, Refusal>
     requires { RowsReady limits at.count rows.old }
     ensures { RowsEnd limits result (finish rows.old.w limits (state_of at rows.old)) rows.old rows.new }
 {
     let left = final_sweep(limits, rows, at);
-    let mean = sums::mean::diagonal_expectation(rows, left.count);
+    let mean = rows_mean(rows, left.count);
     if !turn::fine(rows, left) || !numbers::tests::is_finite(mean) {
         return Err(Refusal::NotFinite);
     }

@@ -8,13 +8,11 @@ use Rattle.sums.proofs.mean.add_mean.Goals as goal
 pub returns-then-all : goal.returns-then-all
 returns-then-all c =
     let a = c.args in
-    let s = c.args.rows.now in
     let e = all_from_yields_List (λ x. eqb x 0) _ _ _ c.all.ensures.ran (YieldsList-from_slice _ c.iter.ensures.rest) (λ x b q k. search (rules, tests)) in
-    mean_added s.w a.i s.words.now s.coeffs.now a.sum (e ∙ all_zeros s.w a.i s.words.now) c.if-all.true refl
+    mean_added a.w a.i a.words.now a.coeffs.now a.sum (e ∙ all_zeros a.w a.i a.words.now) c.if-all.true refl
 
 pub returns-else-all : goal.returns-else-all
 returns-else-all c =
     let a = c.args in
-    let s = c.args.rows.now in
     let e = all_from_yields_List (λ x. eqb x 0) _ _ _ c.all.ensures.ran (YieldsList-from_slice _ c.iter.ensures.rest) (λ x b q k. search (rules, tests)) in
-    mean_passed s.w a.i s.words.now s.coeffs.now a.sum (e ∙ all_zeros s.w a.i s.words.now) c.if-all.false
+    mean_passed a.w a.i a.words.now a.coeffs.now a.sum (e ∙ all_zeros a.w a.i a.words.now) c.if-all.false

@@ -7,7 +7,7 @@ returns-then-not-fine c =
     let a = c.args in
     let s = c.args.rows.now in
     let d = c.final_sweep-left.ensures in
-    let m = rw d.same.width at c.diagonal_expectation-mean.ensures in
+    let m = rw d.same.width at c.rows_mean-mean.ensures in
     record {
       same = d.same;
       left = elim c.then-not-fine.branch [
@@ -24,6 +24,6 @@ returns c =
     let d = c.final_sweep-left.ensures in
     record {
       same = d.same;
-      left = finished s.w a.limits a.at c.requires d.left (rw d.same.width at c.diagonal_expectation-mean.ensures) c.fine.ensures c.is_finite.ensures
+      left = finished s.w a.limits a.at c.requires d.left (rw d.same.width at c.rows_mean-mean.ensures) c.fine.ensures c.is_finite.ensures
           c.if-not-fine.false c.if-not-is_finite.false;
     }
