@@ -5,12 +5,15 @@ use mathlib.Core.List.{List, [], ◌∷◌}
 use Prim.Native.Nat.{ℕ, zero, suc, ◌+◌, ◌-◌, ◌*◌, ◌/◌, ◌^◌, ◌≤◌, ◌<◌, min}
 use native.Mathlib.Nat.{le_refl}
 use native.Mathlib.Omega.{arith}
-use lib.Dec.{leb}
+use lib.Dec.{eqb, leb}
 use lib.ListN.{length, get_or, drop, replicate, length-drop}
 use borrow.Author.Tests.{le-leb, leb-true}
 use lib.Seq.{drop-cons}
 use lib.Ieee.{Float}
-use Rattle.std.specs.Prelude.{Result, Ok, Err}
+use Rattle.std.specs.Prelude.{Option, Some, None, option_map, IfSome, IfOk, Result, Ok, Err}
+use Rattle.std.specs.List.{find}
+use Rattle.std.proofs.lemmas.Bool.{eqb-true}
+use Rattle.std.proofs.lemmas.Option.{IfSome_then}
 use Rattle.terms.specs.Term.{no_term}
 use Rattle.rows.specs.Rows.{term_at, terms_in, rows_in, words_with, coeffs_with, Stepped, Holds, Room}
 use Rattle.rows.specs.Cleared.{Cleared}
@@ -30,10 +33,10 @@ use Rattle.ops.specs.declared.Refusal.TheVariants as E
 use Rattle.ops.specs.Refusals.{number_of}
 use Rattle.turns.specs.declared.Progress.{Progress}
 use Rattle.turns.specs.declared.Finished.{Finished}
-use Rattle.dynamics.specs.Turn.{Stage, refused, going, bind, ask, UnlessRefused, State, Outcome, finish}
+use Rattle.dynamics.specs.Turn.{Stage, refused, going, bind, ask, UnlessRefused, State, state, Outcome, finish}
 use Rattle.dynamics.specs.Runs.{turn, step, runs, marked_run}
 use Rattle.turns.specs.SumRuns.{Results, results, told_by, results_of, left_by, has_rows, Ran}
-use Rattle.turns.specs.Told.{tally, state_in, stage_in, refusal_of, turned_of, ending_of, Ready, Fresh, Tells, Ends}
+use Rattle.turns.specs.Told.{tally, stage_terms, state_in, stage_in, refusals, refusal_of, turned_of, ending_of, Ready, Fresh, Tells, Ends}
 use Rattle.dynamics.proofs.CountedRuns.{Counted, runs_counted, run_fits}
 use Rattle.turns.proofs.TurnLaws.{long, untouched}
 
@@ -135,10 +138,10 @@ module _ (w : ℕ) (l : Limits) (ms : List Bool) (ops : List Op) (s : State) {ws
   run_refused {e} T = subst (λ (x : Stage State). Ends w l (Err e) ws₀ ws cs₀ cs (bind x (finish w l))) T.told
       (record { answer = refl; rows = T.rows; few = omega arith })
 
--- ---- an answer and the outcome that it tells of
+-- ---- an answer and the outcome that it tells of, one to one
 
 -- a refusal's number gives it back
-number_back : (e : Refusal) → refusal_of (number_of e) ≡ e
+number_back : (e : Refusal) → refusal_of (number_of e) ≡ Some e
 number_back Layout = refl
 number_back Counts = refl
 number_back RunLines = refl
@@ -150,36 +153,77 @@ number_back NotFinite = refl
 number_back TooMany = refl
 number_back Angles = refl
 
-pub turned_of_lem : (w : ℕ) (l : Limits) {r : Result Progress Refusal} {ws₀ ws : List ℕ} {cs₀ cs : List Float} {s : Stage State} → Tells w l r ws₀ ws cs₀ cs s → r ≡ turned_of s
+-- what is found passes the test
+found_passes : (p : Refusal → Bool) (es : List Refusal) → IfSome (find p es) (λ e. p e ≡ true)
+found_passes p [] = tt
+found_passes p (e ∷ es) = go (p e) refl (found_passes p es)
+  where
+    go : (b : Bool) → p e ≡ b → IfSome (find p es) (λ x. p x ≡ true) → IfSome (cond b (Some e) (find p es)) (λ x. p x ≡ true)
+    go true h rest = h
+    go false h rest = rest
+
+-- the refusal of a number has that number
+number_there : (n : ℕ) → IfSome (refusal_of n) (λ e. number_of e ≡ n)
+number_there n = IfSome_then (refusal_of n) (found_passes (λ e. eqb (number_of e) n) refusals) (λ e h. eqb-true (number_of e) n h)
+
+-- what holds of each refusal with a number holds of the answer that stands for the number
+by_number : {X : Type 0} (n : ℕ) (P : Result X Refusal → Type 0) → ((e : Refusal) → number_of e ≡ n → P (Err e)) → IfSome (option_map Err (refusal_of n)) P
+by_number n P h = go (refusal_of n) (number_there n)
+  where
+    go : (a : Option Refusal) → IfSome a (λ e. number_of e ≡ n) → IfSome (option_map Err a) P
+    go None q = tt
+    go (Some e) q = h e q
+
+-- worked cases: no question has these numbers, so no answer stands for them
+no_ending_0 : ending_of (refused 0) ≡ None
+no_ending_0 = refl
+
+no_ending_10 : ending_of (refused 10) ≡ None
+no_ending_10 = refl
+
+no_ending_12 : ending_of (refused 12) ≡ None
+no_ending_12 = refl
+
+pub turned_of_lem : (w : ℕ) (l : Limits) {r : Result Progress Refusal} {ws₀ ws : List ℕ} {cs₀ cs : List Float} {s : Stage State} → Tells w l r ws₀ ws cs₀ cs s → Some r ≡ turned_of s
 turned_of_lem w l {r} {ws₀} {ws} {cs₀} {cs} T = go r ∙ ap turned_of T.told
   where
-    go : (a : Result Progress Refusal) → a ≡ turned_of (stage_in w a ws cs)
-    go (Err e) = ap Err (sym (number_back e))
-    go (Ok p) = λ k. Ok (record { count = sym (long w p.count ws cs) k; tally = p.tally })
+    go : (a : Result Progress Refusal) → Some a ≡ turned_of (stage_in w a ws cs)
+    go (Err e) = ap (option_map Err) (sym (number_back e))
+    go (Ok p) = λ k. Some (Ok (record { count = sym (long w p.count ws cs) k; tally = p.tally }))
 
-pub ending_of_lem : (run : Stage Outcome) {end : Result Finished Refusal} → told_by end ≡ results_of run → end ≡ ending_of run
+-- the other way, where the rows hold the terms of the stage
+module _ (w : ℕ) (ws : List ℕ) (cs : List Float) where
+  abbrev Stands : Stage State → Result Progress Refusal → Type 0
+  Stands s r = IfOk r (λ p. terms_in (2 * w) p.count ws cs ≡ stage_terms s) → stage_in w r ws cs ≡ s
+
+  stands : (s : Stage State) → IfSome (turned_of s) (Stands s)
+  stands (refused n) = by_number n (Stands (refused n)) (λ e h t. ap refused h)
+  stands (going s) = λ t k. going (state (t k) s.peak s.discarded s.touched)
+
+  pub told_stage : (s : Stage State) {r : Result Progress Refusal} → Some r ≡ turned_of s → IfOk r (λ p. terms_in (2 * w) p.count ws cs ≡ stage_terms s) → stage_in w r ws cs ≡ s
+  told_stage s e = subst⁻¹ (λ (a : Option (Result Progress Refusal)). IfSome a (Stands s)) e (stands s)
+
+pub ending_of_lem : (run : Stage Outcome) {end : Result Finished Refusal} → told_by end ≡ results_of run → Some end ≡ ending_of run
 ending_of_lem run {end} e = sym (back end) ∙ ap told_end e ∙ forth run
   where
-    told_end : Stage Results → Result Finished Refusal
-    told_end (refused n) = Err (refusal_of n)
-    told_end (going x) = Ok (record { mean = x.mean; count = x.count; tally = tally x.peak x.discarded x.touched })
+    told_end : Stage Results → Option (Result Finished Refusal)
+    told_end (refused n) = option_map Err (refusal_of n)
+    told_end (going x) = Some (Ok (record { mean = x.mean; count = x.count; tally = tally x.peak x.discarded x.touched }))
 
-    back : (r : Result Finished Refusal) → told_end (told_by r) ≡ r
-    back (Err f) = ap Err (number_back f)
+    back : (r : Result Finished Refusal) → told_end (told_by r) ≡ Some r
+    back (Err f) = ap (option_map Err) (number_back f)
     back (Ok f) = refl
 
     forth : (s : Stage Outcome) → told_end (results_of s) ≡ ending_of s
     forth (refused n) = refl
     forth (going o) = refl
 
--- The other way, for an outcome whose number is that of a question: an answer that is a `Refusal` tells of no other number.
-abbrev pub Numbered : Stage Outcome → Type 0
-Numbered (refused n) = (e : Refusal) × (n ≡ number_of e)
-Numbered (going o) = Unit {0}
-
-pub told_of : (run : Stage Outcome) {end : Result Finished Refusal} → Numbered run → end ≡ ending_of run → told_by end ≡ results_of run
-told_of (refused n) q e = ap told_by e ∙ ap refused (subst⁻¹ (λ (m : ℕ). number_of (refusal_of m) ≡ m) q.1 (ap number_of (number_back q.0)))
-told_of (going o) q e = ap told_by e
+pub told_of : (run : Stage Outcome) {end : Result Finished Refusal} → Some end ≡ ending_of run → told_by end ≡ results_of run
+told_of run e = subst⁻¹ (λ (a : Option (Result Finished Refusal)). IfSome a (λ r. told_by r ≡ results_of run)) e (go run)
+  where
+    go : (s : Stage Outcome) → IfSome (ending_of s) (λ r. told_by r ≡ results_of s)
+    go (refused n) = by_number n (λ r. told_by r ≡ refused n) (λ f h. ap refused h)
+    go (going o) = refl
 
 -- a run that is refused, by its number
 pub ends_refused : (e : Refusal) (run : Stage Outcome) → told_by (Err e) ≡ results_of run → refused (number_of e) ≡ run

@@ -1,5 +1,6 @@
 -- What the answers of private functions and the rows tell of a run.
-use Rattle.std.specs.Prelude.{◌≡◌, Bool, cond, ◌&&◌, List, [], ◌∷◌, ℕ, ◌*◌, ◌≤◌, max, leb, length, get_or, Float, Result, Ok, Err, IfOk}
+use Rattle.std.specs.Prelude.{◌≡◌, Bool, cond, ◌&&◌, List, [], ◌∷◌, ℕ, ◌*◌, ◌≤◌, max, eqb, leb, length, Float, Option, Some, option_map, Result, Ok, Err, IfOk}
+use Rattle.std.specs.List.{find}
 use Rattle.terms.specs.Term.{Term, Distinct}
 use Rattle.numbers.specs.Tests.{is_finite}
 use Rattle.rows.specs.declared.Rows.{Rows}
@@ -25,18 +26,22 @@ tally p d n = record { peak = p; discarded = d; touched = n }
 abbrev pub progress_of : State → Progress
 progress_of s = record { count = length s.terms; tally = tally s.peak s.discarded s.touched }
 
--- the refusal of a number
-abbrev pub refusal_of : ℕ → Refusal
-refusal_of n =
-    get_or (Layout ∷ Layout ∷ Counts ∷ RunLines ∷ Reals ∷ Qubits ∷ Repeats ∷ Room ∷ NotFinite ∷ TooMany ∷ Layout ∷ Angles ∷ []) n Layout
+-- every refusal
+abbrev pub refusals : List Refusal
+refusals = Layout ∷ Counts ∷ RunLines ∷ Reals ∷ Qubits ∷ Repeats ∷ Room ∷ NotFinite ∷ TooMany ∷ Angles ∷ []
 
-abbrev pub turned_of : Stage State → Result Progress Refusal
-turned_of (refused n) = Err (refusal_of n)
-turned_of (going s) = Ok (progress_of s)
+-- the refusal that has a number; None where no question has it
+abbrev pub refusal_of : ℕ → Option Refusal
+refusal_of n = find (λ e. eqb (number_of e) n) refusals
 
-abbrev pub ending_of : Stage Outcome → Result Finished Refusal
-ending_of (refused n) = Err (refusal_of n)
-ending_of (going o) = Ok (record { mean = o.mean; count = length o.terms; tally = tally o.peak o.discarded o.touched })
+-- the answer of a stage; for a number that no question has there is none
+abbrev pub turned_of : Stage State → Option (Result Progress Refusal)
+turned_of (refused n) = option_map Err (refusal_of n)
+turned_of (going s) = Some (Ok (progress_of s))
+
+abbrev pub ending_of : Stage Outcome → Option (Result Finished Refusal)
+ending_of (refused n) = option_map Err (refusal_of n)
+ending_of (going o) = Some (Ok (record { mean = o.mean; count = length o.terms; tally = tally o.peak o.discarded o.touched }))
 
 -- the terms that a stage has; a refused run has none
 abbrev pub stage_terms : Stage State → List Term
