@@ -5,13 +5,13 @@ use mathlib.Core.Bool.{Bool, true, false, cond}
 use mathlib.Core.List.{List, [], ◌∷◌}
 use native.Mathlib.Numerals.{add-one}
 use native.Mathlib.Omega.{arith}
-use borrow.Author.Tests.{lt-ltb, le-ltb, ne_eqb}
+use borrow.Author.Tests.{lt-ltb, le-ltb, eq-eqb, ne_eqb, eqb-true, eqb-false}
 use lib.Dec.{ltb, eqb, eqb-suc-suc}
 use lib.ListN.{length, get_or, drop}
 use Rattle.std.specs.Prelude.{Option, Some, None}
-use Rattle.std.specs.List.{enumerate_from, count_by}
-use Rattle.std.proofs.lemmas.List.Recursion.{is_count_by}
-use Rattle.text.specs.Bytes.{on_first, parts}
+use Rattle.std.specs.List.{enumerate_from}
+use Rattle.text.specs.Bytes.{on_first, parts, newline}
+use Rattle.text.proofs.PartLaws.{parts_some}
 use Rattle.std.proofs.lemmas.Bool.Decides.{nat_tests}
 use Rattle.layout.specs.declared.Kind.{Kind}
 use Rattle.layout.specs.Layout.{kind, is_laid_out, is_end, bad_line}
@@ -29,34 +29,69 @@ pub parts_counted : (n : ℕ) (ps : List (List ℕ)) → length (enumerate_from 
 parts_counted n [] = refl
 parts_counted n (p ∷ ps) = ap suc (parts_counted (n + 1) ps)
 
--- one part more than there are bytes c
-onto : (b : ℕ) (t : Bool) (ps : List (List ℕ)) (n : ℕ) → length ps ≡ suc n → length (cond t ([] ∷ ps) (on_first b ps)) ≡ suc (cond t (1 + n) n)
-unfolding on_first
-onto b true ps n e = ap suc e ∙ omega arith
-onto b false [] n e = absurd (omega (arith, e))
-onto b false (p ∷ ps) n e = e
+-- the place where part i starts: each part before it has a byte after it
+pub place : List (List ℕ) → ℕ → ℕ
+place ps zero = 0
+place [] (suc i) = 0
+place (p ∷ ps) (suc i) = suc (length p + place ps i)
 
-abbrev ends : ℕ → List ℕ → ℕ
-ends c [] = 0
-ends c (b ∷ bs) = cond (eqb b c) (1 + ends c bs) (ends c bs)
+-- a text and one byte more are all of its parts
+place_all : (c : ℕ) (s : List ℕ) → place (parts c s) (length (parts c s)) ≡ suc (length s)
+unfolding parts on_first place
+place_all c [] = omega arith
+place_all c (b ∷ bs) = go (parts c bs) (parts_some c bs) (place_all c bs) (eqb b c)
+  where
+    go : (ps : List (List ℕ)) → 0 < length ps → place ps (length ps) ≡ suc (length bs) → (t : Bool)
+        → (let qs = cond t ([] ∷ ps) (on_first b ps) in place qs (length qs)) ≡ suc (suc (length bs))
+    go ps h e true = omega (arith, e)
+    go [] h e false = absurd (omega (arith, h))
+    go (p ∷ ps) h e false = omega (arith, e)
 
-ends_parts : (c : ℕ) (s : List ℕ) → length (parts c s) ≡ suc (ends c s)
-unfolding parts
-ends_parts c [] = refl
-ends_parts c (b ∷ bs) = onto b (eqb b c) (parts c bs) (ends c bs) (ends_parts c bs)
+-- part i + 1 starts behind part i and a byte
+place_next : (ps : List (List ℕ)) (i : ℕ) (p : List ℕ) → i < length ps → p ≡ get_or ps i p → place ps (suc i) ≡ suc (place ps i + length p)
+unfolding place
+place_next [] i p h e = absurd (omega (arith, h))
+place_next (q ∷ ps) zero p h e = let l = ap length e in omega (arith, l)
+place_next (q ∷ ps) (suc i) p h e = let r = place_next ps i p (omega (arith, h)) e in omega (arith, r)
 
-pub parts_ended : (c : ℕ) (s : List ℕ) → length (parts c s) ≡ suc (count_by (λ b. eqb b c) s)
-parts_ended c s = ends_parts c s ∙ ap suc (is_count_by (ends c) (λ b. eqb b c) refl (λ b bs. refl) s)
+-- each part starts before the end of them all
+place_before : (ps : List (List ℕ)) (i : ℕ) → i < length ps → place ps i < place ps (length ps)
+unfolding place
+place_before [] i h = absurd (omega (arith, h))
+place_before (q ∷ ps) zero h = omega arith
+place_before (q ∷ ps) (suc i) h = let r = place_before ps i (omega (arith, h)) in omega (arith, r)
+
+-- a part p of s, which starts at `at`
+module _ (c : ℕ) (s : List ℕ) (at i : ℕ) (a : at ≡ place (parts c s) i) (p : List ℕ) (h : i < length (parts c s)) (e : p ≡ get_or (parts c s) i p) where
+  next_at : place (parts c s) (i + 1) ≡ at + length p + 1
+  next_at = rw (a, add-one i) (place_next (parts c s) i p h e ∙ omega arith)
+
+  -- it ends in s, and at the end of s if it is the last
+  by_count : (t : Bool) → eqb (i + 1) (length (parts c s)) ≡ t → (at + length p ≤ length s) × (eqb (at + length p) (length s) ≡ t)
+  by_count true q =
+      let m = sym next_at ∙ ap (place (parts c s)) (eqb-true _ _ q) ∙ place_all c s in
+      (omega (arith, m), eq-eqb _ _ (omega (arith, m)))
+  by_count false q =
+      let l = place_before (parts c s) (i + 1) (let n = eqb-false _ _ q in omega (arith, h, n)) in
+      let m = next_at in
+      let w = place_all c s in
+      (omega (arith, l, m, w), ne_eqb _ _ (λ z. omega (arith, l, m, w, z)))
+
+  part_within : at + length p ≤ length s
+  part_within = (by_count _ refl).0
+
+  part_ends : eqb (at + length p) (length s) ≡ eqb (i + 1) (length (parts c s))
+  part_ends = (by_count _ refl).1
 
 -- what is wrong in the parts from i on
-abbrev pub left : ℕ → ℕ → List (List ℕ) → ℕ → Option ℕ
+abbrev left : ℕ → ℕ → List (List ℕ) → ℕ → Option ℕ
 left t o ps i = cond (ltb i (length ps)) (bad_line t o (drop i ps) (i + 1)) None
 
 module _ (t o : ℕ) (ps : List (List ℕ)) where
-  pub left_all : 0 < length ps → left t o ps 0 ≡ bad_line t o ps 1
+  left_all : 0 < length ps → left t o ps 0 ≡ bad_line t o ps 1
   left_all h = rw (lt-ltb 0 (length ps) h)
 
-  pub left_none : (i : ℕ) → length ps ≤ i → left t o ps i ≡ None
+  left_none : (i : ℕ) → length ps ≤ i → left t o ps i ≡ None
   left_none i h = rw (le-ltb i (length ps) h)
 
 -- one part more, which is the last where i + 1 is the count
@@ -81,20 +116,36 @@ pub left_next : (t o : ℕ) (ps : List (List ℕ)) (i : ℕ) (p : List ℕ) (b :
     → left t o ps i ≡ cond b (left t o ps (i + 1)) (Some (i + 1))
 left_next t o ps i p b h e f = rw (lt-ltb i (length ps) h, f) (step t o ps i (i + 1) p h e)
 
--- one turn of the pass: qs are the parts as `split` gives them, n their count, d the kind of the part p, and b whether it is right
-module _ (t o : ℕ) (ps qs : List (List ℕ)) (e : qs ≡ ps) (j i : ℕ) (p : List ℕ) (h : (j < length (enumerate_from 0 qs)) × ((i, p) ≡ get_or (enumerate_from 0 qs) j (i, p)))
-    (n : ℕ) (f : n ≡ length qs) (d : Kind) (g : d ≡ kind t o (i + 1)) (b : Bool) (k : b ≡ cond (eqb (i + 1) n) (is_end d p) (is_laid_out d p))
-    (A : Option ℕ) (inv : left t o ps j ≡ A) where
-  turned : cond b (left t o ps (j + 1)) (Some (i + 1)) ≡ A
-  turned =
-      let r = part_at qs 0 j i p h in
-      let s : i ≡ j = r.0 ∙ omega arith in
-      let l : j < length ps = rw e at r.1 in
-      let u : p ≡ get_or ps j p = rw e at r.2 in
-      rw s (sym (left_next t o ps j p b l u (rw (g, f, e, s) at k)) ∙ inv)
+-- a pass over s, where A is what is wrong in it: j parts are right, and the next one starts at `at`
+pub record Passing (t o : ℕ) (s : List ℕ) (A : Option ℕ) (j at : ℕ) : Type 0 where
+  pub starts : at ≡ place (parts newline s) j
+  pub wrong : left t o (parts newline s) j ≡ A
 
-  pub part_bad : b ≡ false → Some (i + 1) ≡ A
-  part_bad q = rw q at turned
+pub passing_none : (t o : ℕ) (s : List ℕ) → Passing t o s (bad_line t o (parts newline s) 1) 0 0
+unfolding place
+passing_none t o s = record { starts = refl; wrong = left_all t o _ (parts_some newline s) }
 
-  pub part_good : b ≡ true → left t o ps (j + 1) ≡ A
-  part_good q = rw q at turned
+pub passing_all : {t o : ℕ} {s : List ℕ} {A : Option ℕ} {j at : ℕ} → Passing t o s A j at → length (parts newline s) ≤ j → None ≡ A
+passing_all {t} {o} {s} {A} {j} P h = sym (left_none t o (parts newline s) j h) ∙ P.wrong
+
+-- one turn of the pass: qs are the parts as `split` gives them
+module _ {t o : ℕ} {s : List ℕ} {A : Option ℕ} {j at : ℕ} (P : Passing t o s A j at) (qs : List (List ℕ)) (e : qs ≡ parts newline s) (i : ℕ) (p : List ℕ)
+    (h : (j < length (enumerate_from 0 qs)) × ((i, p) ≡ get_or (enumerate_from 0 qs) j (i, p))) where
+  at_part : (i ≡ j) × (j < length (parts newline s)) × (p ≡ get_or (parts newline s) j p)
+  at_part = let r = part_at qs 0 j i p h in (r.0 ∙ omega arith, rw e at r.1, rw e at r.2)
+
+  pub place_within : at + length p ≤ length s
+  place_within = part_within newline s at j P.starts p at_part.1 at_part.2
+
+  -- d is the kind of the part p, and b whether it is right
+  module _ (d : Kind) (g : d ≡ kind t o (i + 1)) (b : Bool) (k : b ≡ cond (eqb (at + length p) (length s)) (is_end d p) (is_laid_out d p)) where
+    turned : cond b (left t o (parts newline s) (j + 1)) (Some (i + 1)) ≡ A
+    turned =
+        let r = at_part in
+        rw r.0 (sym (left_next t o (parts newline s) j p b r.1 r.2 (rw (g, part_ends newline s at j P.starts p r.1 r.2, r.0) at k)) ∙ P.wrong)
+
+    pub part_bad : b ≡ false → Some (i + 1) ≡ A
+    part_bad q = rw q at turned
+
+    pub part_good : b ≡ true → Passing t o s A (j + 1) (at + length p + 1)
+    part_good q = record { starts = sym (next_at newline s at j P.starts p at_part.1 at_part.2); wrong = rw q at turned }

@@ -40,24 +40,18 @@ fn is_right(c: Kind, l: &[u8], last: bool) -> bool
     }
 }
 
-// How many parts a text has: one more than bytes 10.
-#[tactic(auto, using(crate::proofs::LineLaws::parts_ended))]
-fn count_parts(s: &[u8]) -> usize
-    ensures { result ≡ length (parts newline s.now) }
-{
-    1 + s.iter().filter(|b| **b == b'\n').count()
-}
-
 // The number of the first line that is not what it should be, counted from 1. A line that is missing counts.
 pub fn first_bad_line(s: &[u8], terms: usize, ops: usize) -> Option<usize>
     ensures { result ≡ bad_line terms ops (parts newline s.now) 1 }
 {
-    let count = count_parts(s);
+    let mut at = 0;
     for (i, l) in s.split(|b| *b == b'\n').enumerate() {
         let k = i + 1;
-        if !is_right(line_kind(terms, ops, k), l, k == count) {
+        let end = at + l.len();
+        if !is_right(line_kind(terms, ops, k), l, end == s.len()) {
             return Some(k);
         }
+        at = end + 1;
     }
     None
 }
