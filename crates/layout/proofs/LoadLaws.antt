@@ -94,7 +94,7 @@ loading_turn {s} {h} {os₀} {os} {i} {at} L room l op next el eo en = record {
       (eo ∙ ap op_on (el ∙ ap (line_at s) L.place ∙ line_there s (7 + h.terms + i)));
 }
 
-pub loading_all : {s : List ℕ} {h : Head} {os₀ os : List Op} {i at : ℕ} → Loading s h os₀ i at os → i ≡ min h.ops (length os₀) → os ≡ with_ops h (parts newline s) os₀
+pub loading_all : {s : List ℕ} {h : Head} {os₀ os : List Op} {i at : ℕ} → Loading s h os₀ i at os → i ≡ min (min h.ops 4096) (length os₀) → os ≡ with_ops h (parts newline s) os₀
 loading_all {s} {h} {os₀} {os} {i} {at} L e = L.ops ∙ ap (λ (n : ℕ). tab n (op_line h (parts newline s)) ++ drop n os₀) e
 
 -- ---- room for the rows of a table
@@ -230,10 +230,10 @@ module _ (w : ℕ) (h : Head) (ls : List (List ℕ)) (K : List ℕ) (W : List Fl
   no_keys few = loaded_by false (ap (λ (b : Bool). b && leb h.terms (length W)) few)
 
 -- ---- laws for the callers
--- if a list has places for all ops, and the sheet is laid out, then its op list is read from it
-pub ops_loaded : (h : Head) (ls : List (List ℕ)) (os : List Op) → h.ops ≤ length os → question1 h ls ≡ None → take h.ops (with_ops h ls os) ≡ sheet_ops h ls
-ops_loaded h ls os room laid =
-    let all : min h.ops (length os) ≡ h.ops = omega (arith, room) in
+-- if there are at most 4,096 ops, a list has places for all, and the sheet is laid out, then its op list is read from it
+pub ops_loaded : (h : Head) (ls : List (List ℕ)) (os : List Op) → h.ops ≤ 4096 → h.ops ≤ length os → question1 h ls ≡ None → take h.ops (with_ops h ls os) ≡ sheet_ops h ls
+ops_loaded h ls os few room laid =
+    let all : min (min h.ops 4096) (length os) ≡ h.ops = omega (arith, few, room) in
     ap (λ (n : ℕ). take h.ops (tab n (op_line h ls) ++ drop n os)) all
     ∙ take_at (tab h.ops (op_line h ls)) (drop h.ops os) h.ops (length_tab h.ops (op_line h ls))
     ∙ tab_lines op_on ls (7 + h.terms) h.ops (omega (arith, laid_length h ls laid))

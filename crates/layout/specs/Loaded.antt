@@ -16,9 +16,9 @@ use Rattle.layout.specs.declared.Head.{Head}
 abbrev pub op_line : Head → List (List ℕ) → ℕ → Op
 op_line h ls j = op_on (get_or ls (7 + h.terms + j) [])
 
--- a list with the first ops of a sheet in its first places, as many as it has, and behind them those that stood there
+-- a list with the first ops of a sheet in its first places, at most 4,096 and as many as it has, and behind them those that stood there
 abbrev pub with_ops : Head → List (List ℕ) → List Op → List Op
-with_ops h ls os = let n = min h.ops (length os) in tab n (op_line h ls) ++ drop n os
+with_ops h ls os = let n = min (min h.ops 4096) (length os) in tab n (op_line h ls) ++ drop n os
 
 -- ---- the `term` lines
 

@@ -17,13 +17,13 @@ use ops::Op;
 use rows::Rows;
 use words::rows::rows_of;
 
-// Writes the ops of a sheet to the first places of a slice, as many as there are ops and places.
+// Writes the first ops of a sheet to the first places of a slice, at most 4,096 and as many as there are places.
 pub fn load_ops(sheet: Sheet<'_>, ops: &mut [Op])
     ensures { ops.new ≡ with_ops sheet.entry.head (parts newline sheet.entry.text.now) ops.old }
 {
     let s = sheet.text;
     let mut at = start_at(s, start_at(s, 0, 7), sheet.head.terms);
-    for i in 0..sheet.head.ops.min(ops.len()) {
+    for i in 0..sheet.head.ops.min(4096).min(ops.len()) {
         ops[i] = op_on(line_at(s, at));
         at = next_at(s, at);
     }

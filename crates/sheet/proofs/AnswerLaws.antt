@@ -52,7 +52,7 @@ laid_sound h ls os room e =
       limit = leb-true h.limit 1048576 (and_true (leb 1 h.limit) (leb h.limit 1048576) y.limit).1;
       terms = leb-true h.terms 1024 (and_true (leb h.terms 1024) (leb h.terms h.limit) y.terms).0;
       ops = leb-true h.ops 4096 y.ops;
-      table = ops_loaded h ls os room s.0;
+      table = ops_loaded h ls os (leb-true h.ops 4096 y.ops) room s.0;
     }
 
 -- ---- room for a sheet of at most 256 qubits
