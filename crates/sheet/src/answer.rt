@@ -21,6 +21,7 @@ use rows::Rows;
 use rows::row::rows_in;
 use runs::counts::run_t_count;
 use turns::Memory;
+use words::Gate;
 use words::rows::width;
 
 // A sheet that passed every question: its lines go into a table, and its run begins.
@@ -88,7 +89,8 @@ fn answer_table<const OPS: usize, const WORDS: usize, const LINES: usize>(
     ensures { OnLent (RepliedLater sheet.entry.head (parts newline sheet.entry.text.now) result)
         memory.old memory.new means.old means.new }
 {
-    let mut ops = [Op::Barrier; OPS];
+    // This op is all zero bits, so that the slice is set in one pass, as the words are.
+    let mut ops = [Op::Native(Gate::Id, 0, 0); OPS];
     let mut keys = [0u64; WORDS];
     let mut weights = [0.0f64; LINES];
     let table = Rows {
