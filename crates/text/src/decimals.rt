@@ -3,6 +3,7 @@ ghost use Rattle.std.specs.Prelude.{◌≡◌, Some};
 ghost use Rattle.text.specs.Numerals.{next_digit, decimal};
 
 // The number that v's digits and one digit more make.
+#[tactic(auto, using(std::proofs::lemmas::Bool::Decides::nat_tests), unfolding(crate::specs::Numerals::next_digit))]
 fn push_digit(v: usize, b: u8) -> Option<usize>
     ensures { result ≡ next_digit (Some v) b }
 {

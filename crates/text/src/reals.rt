@@ -5,6 +5,7 @@ ghost use Rattle.text.specs.Numerals.{hex_digit, hex16, real};
 use numbers::bits::of_bits;
 
 // The value of a lowercase hexadecimal digit.
+#[tactic(auto, using(std::proofs::lemmas::Bool::Decides::nat_tests), unfolding(crate::specs::Numerals::hex_digit))]
 fn hex_digit(b: u8) -> Option<usize>
     ensures { result ≡ hex_digit b }
 {
