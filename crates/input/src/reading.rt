@@ -16,6 +16,7 @@ fn read_at<R: Read>(reader: &mut R, buf: &mut [u8], at: usize) -> io::Result<usi
 }
 
 // Reads piece after piece, until the input ends or the buffer is full, and answers how many bytes of the buffer hold the input.
+#[tactic(auto, using(crate::proofs::PieceLaws::ended_here))]
 pub fn read_input<R: Read>(reader: &mut R, buf: &mut [u8]) -> io::Result<usize>
     ensures held { Held buf.new result }
     ensures bytes { HoldsFront (R.remaining reader.old) (R.remaining reader.new) buf.new result }
