@@ -17,6 +17,10 @@ use Rattle.std.proofs.lemmas.Option.{IfSome_then}
 use Rattle.terms.specs.Term.{no_term}
 use Rattle.rows.specs.Rows.{term_at, terms_in, rows_in, words_with, coeffs_with, Stepped, Holds, Room}
 use Rattle.rows.specs.Cleared.{Cleared}
+use Rattle.words.specs.declared.Gate.TheVariants.{Id}
+use Rattle.rows.specs.declared.Rows.{Rows}
+use Rattle.rows.specs.Lent.{SameRows}
+use Rattle.rows.proofs.LentLaws.{same_trans}
 use Rattle.rows.proofs.HoldLaws.{hold_trans, hold_wide, room_less, room_at}
 use Rattle.rows.proofs.RowLaws.{length_key}
 use Rattle.rows.proofs.ReadLaws.{Keyed, step_holds}
@@ -27,6 +31,7 @@ use Rattle.rows.proofs.ClearLaws.{stepped_cleared}
 use Rattle.rows.proofs.StepLaws.{rows_room, held_room, twice_yes, twice_no}
 use Rattle.ops.specs.declared.Limits.{Limits}
 use Rattle.ops.specs.declared.Op.{Op}
+use Rattle.ops.specs.declared.Op.TheVariants.{Native}
 use Rattle.ops.specs.declared.Refusal.{Refusal}
 use Rattle.ops.specs.declared.Refusal.TheVariants.{Layout, Counts, RunLines, Reals, Qubits, Repeats, NotFinite, TooMany, Angles}
 use Rattle.ops.specs.declared.Refusal.TheVariants as E
@@ -36,7 +41,7 @@ use Rattle.turns.specs.declared.Finished.{Finished}
 use Rattle.dynamics.specs.Turn.{Stage, refused, going, bind, ask, UnlessRefused, State, state, Outcome, finish}
 use Rattle.dynamics.specs.Runs.{turn, step, runs, marked_run}
 use Rattle.turns.specs.SumRuns.{Results, results, told_by, results_of, left_by, has_rows, Ran}
-use Rattle.turns.specs.Told.{tally, stage_terms, state_in, stage_in, refusals, refusal_of, turned_of, ending_of, Ready, Fresh, Tells, Ends}
+use Rattle.turns.specs.Told.{tally, stage_terms, state_in, state_of, RowsTell, stage_in, refusals, refusal_of, turned_of, ending_of, Ready, Fresh, Tells, Ends}
 use Rattle.dynamics.proofs.CountedRuns.{Counted, runs_counted, run_fits}
 use Rattle.turns.proofs.TurnLaws.{long, untouched}
 
@@ -123,6 +128,21 @@ module _ (w : ℕ) (l : Limits) (ms : List Bool) (ops : List Op) (p : Progress) 
       let k = c.met in
       let low = F.low in
       omega (arith, k, m, low)
+
+-- ---- the same of lent rows
+
+-- the ops from i on have been taken, with the answer a
+pub record RowsTaken (l : Limits) (ms : List Bool) (ops : List Op) (p : Progress) (s : Rows) (i : ℕ) (a : Result Progress Refusal) (r : Rows) : Type 0 where
+  pub same : SameRows s r
+  pub left : Taken s.w l ms ops p s.words.now s.coeffs.now i a r.words.now r.coeffs.now
+
+module _ (l : Limits) (ms : List Bool) (ops : List Op) (p : Progress) (s : Rows) (i : ℕ) (at : Progress) (a : Result Progress Refusal) (r r' : Rows) where
+  pub rows_turned : RowsTaken l ms ops p s i (Ok at) r → 0 < i → i - 1 < length ms → i - 1 < length ops → get_or ms (i - 1) false ≡ true
+      → RowsTell l a (turn r.w l (get_or ops (i - 1) (Native Id 0 0)) (state_of at r)) r r' → RowsTaken l ms ops p s (i - 1) a r'
+  rows_turned T pos hm ho m e = record {
+    same = same_trans T.same e.same;
+    left = taken_turn s.w l ms ops p s.words.now s.coeffs.now T.left (Native Id 0 0) pos hm ho m (rw T.same.width at e.left);
+  }
 
 -- ---- the whole run
 

@@ -8,6 +8,7 @@ use ops::{Limits, Op, Refusal};
 use rows::Rows;
 
 // The turns of the ops that the marks set.
+#[tactic(auto, using(crate::proofs::RunLaws::rows_turned))]
 fn run_rows(
     start: Progress,
     ops: &[Op],
