@@ -29,9 +29,10 @@ use Rattle.replies.proofs.WriteLaws.{both, put}
 pub digit_one : (n : ℕ) → n < 10 → (48 + n % 10) ∷ [] ≡ nat_text n
 digit_one n h = ap (λ (k : ℕ). (48 + k) ∷ []) (omega arith) ∙ sym (short_text 19 n h)
 
-pub digit_more : (n : ℕ) → 10 ≤ n → n < 2 ^ 64 → nat_text (n / 10) ++ ((48 + n % 10) ∷ []) ≡ nat_text n
-digit_more n h f =
-    ap (λ (l : List ℕ). l ++ ((48 + n % 10) ∷ [])) (enough 20 19 (n / 10) (omega arith) (omega arith) (omega arith))
+pub digit_more : (n m : ℕ) → 10 ≤ n → n < 2 ^ 64 → m ≡ n / 10 → nat_text m ++ ((48 + n % 10) ∷ []) ≡ nat_text n
+digit_more n m h f e =
+    ap (λ (k : ℕ). nat_text k ++ ((48 + n % 10) ∷ [])) e
+    ∙ ap (λ (l : List ℕ). l ++ ((48 + n % 10) ∷ [])) (enough 20 19 (n / 10) (omega arith) (omega arith) (omega arith))
     ∙ sym (long_text 19 n h)
 
 -- ---- hexadecimal
