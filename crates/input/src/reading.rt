@@ -21,6 +21,10 @@ pub fn read_input<R: Read>(reader: &mut R, buf: &mut [u8]) -> io::Result<usize>
     ensures held { Held buf.new result }
     ensures bytes { HoldsFront (R.remaining reader.old) (R.remaining reader.new) buf.new result }
 {
+    // A buffer of no bytes is handed to the reader too, since a read may fail.
+    if buf.is_empty() {
+        return reader.read(buf);
+    }
     // A `while`: a read says how far it goes, so that the places where reads start are not known before.
     let mut at = 0;
     while at < buf.len() {
