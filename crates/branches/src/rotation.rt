@@ -105,6 +105,7 @@ fn branch_rows(
     m
 }
 
+// The rows through a rotation, where there is room for twice as many. Not inlined: an op that meets nothing returns before it, and stores no rotation.
 #[inline(never)]
 fn branch(rows: &mut Rows<'_>, memory: &mut [u32], n: usize, rotation: Rotation) -> usize
     ensures { OnRows (Rotated rows.old.w n rotation.axis rotation.sin rotation.cos result) rows.old rows.new }
@@ -139,7 +140,7 @@ fn targets_of(axis: Axis) -> (usize, Option<usize>)
 
 // A rotation: t, tdg, rz and p about Z at one qubit, rzz about ZZ at two. The answer is the number of terms, where there are 2 * n rows, else nothing
 // changes; and how many of the first n had a letter on at least one target. Where none had, nothing changes and no row is touched. What the memory of
-// the index then holds is free, but for its length. Inlined: where nothing is met the rotation is then never stored.
+// the index then holds is free, but for its length. Inlined, for runs of ops that meet nothing (docs/SPEED.md).
 #[inline(always)]
 pub fn branch_rotation(
     rows: &mut Rows<'_>,

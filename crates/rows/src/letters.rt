@@ -43,8 +43,8 @@ fn letter_at(words: &[u64], w: usize, i: usize, q: usize) -> u64
 }
 
 // How many of the first n terms have a letter at a or, with a second target, at b; none where there are not that many rows, or no words for the
-// targets. The slices are only read, so they are parameters of their own: a `Rows` is made of exclusive ones. Inlined: an op that meets nothing costs
-// little more than this.
+// targets. The slices are only read, so they are parameters of their own: a `Rows` is made of exclusive ones. Inlined, for
+// runs of ops that meet nothing (docs/SPEED.md).
 #[inline(always)]
 pub fn met_rows(
     words: &[u64],
