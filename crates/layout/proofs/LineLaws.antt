@@ -1,5 +1,5 @@
 -- Laws of a pass over the parts of a sheet: ps are the parts, and i of them are right. Assumes nothing.
-use Prim.Native.Nat.{ℕ, zero, suc, ◌+◌, ◌<◌, ◌≤◌}
+use Prim.Native.Nat.{ℕ, zero, suc, ◌+◌, ◌-◌, ◌<◌, ◌≤◌}
 use mathlib.Core.Path.{◌≡◌, refl, sym, ap, ◌∙◌}
 use mathlib.Core.Bool.{Bool, true, false, cond}
 use mathlib.Core.List.{List, [], ◌∷◌}
@@ -61,27 +61,27 @@ place_before [] i h = absurd (omega (arith, h))
 place_before (q ∷ ps) zero h = omega arith
 place_before (q ∷ ps) (suc i) h = let r = place_before ps i (omega (arith, h)) in omega (arith, r)
 
--- a part p of s, which starts at `at`
-module _ (c : ℕ) (s : List ℕ) (at i : ℕ) (a : at ≡ place (parts c s) i) (p : List ℕ) (h : i < length (parts c s)) (e : p ≡ get_or (parts c s) i p) where
-  next_at : place (parts c s) (i + 1) ≡ at + length p + 1
-  next_at = rw (a, add-one i) (place_next (parts c s) i p h e ∙ omega arith)
-
-  -- it ends in s, and at the end of s if it is the last
-  by_count : (t : Bool) → eqb (i + 1) (length (parts c s)) ≡ t → (at + length p ≤ length s) × (eqb (at + length p) (length s) ≡ t)
-  by_count true q =
-      let m = sym next_at ∙ ap (place (parts c s)) (eqb-true _ _ q) ∙ place_all c s in
-      (omega (arith, m), eq-eqb _ _ (omega (arith, m)))
-  by_count false q =
-      let l = place_before (parts c s) (i + 1) (let n = eqb-false _ _ q in omega (arith, h, n)) in
-      let m = next_at in
+-- part i of s is p, and from its start on there are `rest` bytes
+module _ (c : ℕ) (s : List ℕ) (rest i : ℕ) (p : List ℕ) (h : i < length (parts c s)) (e : p ≡ get_or (parts c s) i p) (a : place (parts c s) i + rest ≡ length s) where
+  -- if it is not the last, a byte follows it, and then the rest
+  next_rest : i + 1 < length (parts c s) → (length p < rest) × (place (parts c s) (i + 1) + (rest - (length p + 1)) ≡ length s)
+  next_rest l =
+      let n = place_next (parts c s) i p h e in
+      let m = ap (place (parts c s)) (add-one i) in
+      let b = place_before (parts c s) (i + 1) l in
       let w = place_all c s in
-      (omega (arith, l, m, w), ne_eqb _ _ (λ z. omega (arith, l, m, w, z)))
+      (omega (arith, n, m, b, w, a), omega (arith, n, m, b, w, a))
 
-  part_within : at + length p ≤ length s
-  part_within = (by_count _ refl).0
-
-  part_ends : eqb (at + length p) (length s) ≡ eqb (i + 1) (length (parts c s))
-  part_ends = (by_count _ refl).1
+  -- it has all of them if it is the last, and else not
+  part_ends : eqb (length p) rest ≡ eqb (i + 1) (length (parts c s))
+  part_ends = go (eqb (i + 1) (length (parts c s))) refl
+    where
+      go : (t : Bool) → eqb (i + 1) (length (parts c s)) ≡ t → eqb (length p) rest ≡ t
+      go true q =
+          let n = place_next (parts c s) i p h e in
+          let m = ap (place (parts c s)) (sym (add-one i) ∙ eqb-true _ _ q) ∙ place_all c s in
+          eq-eqb _ _ (omega (arith, n, m, a))
+      go false q = let l = (next_rest (let k = eqb-false _ _ q in omega (arith, h, k))).0 in ne_eqb _ _ (λ z. omega (arith, l, z))
 
 -- what is wrong in the parts from i on
 abbrev left : ℕ → ℕ → List (List ℕ) → ℕ → Option ℕ
@@ -116,36 +116,32 @@ pub left_next : (t o : ℕ) (ps : List (List ℕ)) (i : ℕ) (p : List ℕ) (b :
     → left t o ps i ≡ cond b (left t o ps (i + 1)) (Some (i + 1))
 left_next t o ps i p b h e f = rw (lt-ltb i (length ps) h, f) (step t o ps i (i + 1) p h e)
 
--- a pass over s, where A is what is wrong in it: j parts are right, and the next one starts at `at`
-pub record Passing (t o : ℕ) (s : List ℕ) (A : Option ℕ) (j at : ℕ) : Type 0 where
-  pub starts : at ≡ place (parts newline s) j
+-- a pass over s, where A is what is wrong in it: j parts are right, and from the next one on, if there is one, there are `rest` bytes
+pub record Passing (t o : ℕ) (s : List ℕ) (A : Option ℕ) (j rest : ℕ) : Type 0 where
+  pub bytes : j < length (parts newline s) → place (parts newline s) j + rest ≡ length s
   pub wrong : left t o (parts newline s) j ≡ A
 
-pub passing_none : (t o : ℕ) (s : List ℕ) → Passing t o s (bad_line t o (parts newline s) 1) 0 0
+pub passing_none : (t o : ℕ) (s : List ℕ) → Passing t o s (bad_line t o (parts newline s) 1) 0 (length s)
 unfolding place
-passing_none t o s = record { starts = refl; wrong = left_all t o _ (parts_some newline s) }
+passing_none t o s = record { bytes = λ h. omega arith; wrong = left_all t o _ (parts_some newline s) }
 
-pub passing_all : {t o : ℕ} {s : List ℕ} {A : Option ℕ} {j at : ℕ} → Passing t o s A j at → length (parts newline s) ≤ j → None ≡ A
+pub passing_all : {t o : ℕ} {s : List ℕ} {A : Option ℕ} {j rest : ℕ} → Passing t o s A j rest → length (parts newline s) ≤ j → None ≡ A
 passing_all {t} {o} {s} {A} {j} P h = sym (left_none t o (parts newline s) j h) ∙ P.wrong
 
--- one turn of the pass: qs are the parts as `split` gives them
-module _ {t o : ℕ} {s : List ℕ} {A : Option ℕ} {j at : ℕ} (P : Passing t o s A j at) (qs : List (List ℕ)) (e : qs ≡ parts newline s) (i : ℕ) (p : List ℕ)
-    (h : (j < length (enumerate_from 0 qs)) × ((i, p) ≡ get_or (enumerate_from 0 qs) j (i, p))) where
+-- one turn of the pass: qs are the parts as `split` gives them, d is the kind of the part p, and b whether it is right
+module _ {t o : ℕ} {s : List ℕ} {A : Option ℕ} {j rest : ℕ} (P : Passing t o s A j rest) (qs : List (List ℕ)) (e : qs ≡ parts newline s) (i : ℕ) (p : List ℕ)
+    (h : (j < length (enumerate_from 0 qs)) × ((i, p) ≡ get_or (enumerate_from 0 qs) j (i, p)))
+    (d : Kind) (g : d ≡ kind t o (i + 1)) (b : Bool) (k : b ≡ cond (eqb (length p) rest) (is_end d p) (is_laid_out d p)) where
   at_part : (i ≡ j) × (j < length (parts newline s)) × (p ≡ get_or (parts newline s) j p)
   at_part = let r = part_at qs 0 j i p h in (r.0 ∙ omega arith, rw e at r.1, rw e at r.2)
 
-  pub place_within : at + length p ≤ length s
-  place_within = part_within newline s at j P.starts p at_part.1 at_part.2
+  turned : cond b (left t o (parts newline s) (j + 1)) (Some (i + 1)) ≡ A
+  turned =
+      let r = at_part in
+      rw r.0 (sym (left_next t o (parts newline s) j p b r.1 r.2 (rw (g, part_ends newline s rest j p r.1 r.2 (P.bytes r.1), r.0) at k)) ∙ P.wrong)
 
-  -- d is the kind of the part p, and b whether it is right
-  module _ (d : Kind) (g : d ≡ kind t o (i + 1)) (b : Bool) (k : b ≡ cond (eqb (at + length p) (length s)) (is_end d p) (is_laid_out d p)) where
-    turned : cond b (left t o (parts newline s) (j + 1)) (Some (i + 1)) ≡ A
-    turned =
-        let r = at_part in
-        rw r.0 (sym (left_next t o (parts newline s) j p b r.1 r.2 (rw (g, part_ends newline s at j P.starts p r.1 r.2, r.0) at k)) ∙ P.wrong)
+  pub part_bad : b ≡ false → Some (i + 1) ≡ A
+  part_bad q = rw q at turned
 
-    pub part_bad : b ≡ false → Some (i + 1) ≡ A
-    part_bad q = rw q at turned
-
-    pub part_good : b ≡ true → Passing t o s A (j + 1) (at + length p + 1)
-    part_good q = record { starts = sym (next_at newline s at j P.starts p at_part.1 at_part.2); wrong = rw q at turned }
+  pub part_good : b ≡ true → Passing t o s A (j + 1) (rest - (length p + 1))
+  part_good q = let r = at_part in record { bytes = λ l. (next_rest newline s rest j p r.1 r.2 (P.bytes r.1) l).1; wrong = rw q at turned }

@@ -44,14 +44,14 @@ fn is_right(c: Kind, l: &[u8], last: bool) -> bool
 pub fn first_bad_line(s: &[u8], terms: usize, ops: usize) -> Option<usize>
     ensures { result ≡ bad_line terms ops (parts newline s.now) 1 }
 {
-    let mut at = 0;
+    // How many bytes there are from a part on: a part that has them all is the last. No byte past the line at which this stops is read.
+    let mut rest = s.len();
     for (i, l) in s.split(|b| *b == b'\n').enumerate() {
         let k = i + 1;
-        let end = at + l.len();
-        if !is_right(line_kind(terms, ops, k), l, end == s.len()) {
+        if !is_right(line_kind(terms, ops, k), l, l.len() == rest) {
             return Some(k);
         }
-        at = end + 1;
+        rest = rest.saturating_sub(l.len() + 1);
     }
     None
 }

@@ -21,7 +21,7 @@ fn final_sweep(limits: Limits, rows: &mut Rows<'_>, at: Progress) -> Progress
     at
 }
 
-// The mean of the first n rows.
+// The mean of the first n rows. It takes the rows shared: of rows that are lent exclusively, as those of `finish` are, two slices can't be lent on in one call.
 fn rows_mean(rows: &Rows<'_>, n: usize) -> f64
     ensures { result ≡ cond (leb n (row_count rows.now)) (mean_of rows.now.w (row_terms rows.now n)) zero64 }
 {
